@@ -1,0 +1,46 @@
+-- Laws of `part`, `be16At` and `drop`.
+--   length-part, getD-part, be16-part   a part's length and what stands in it
+--   part-part                           a part of a part
+--   be16-drop, part-drop                the same of the bytes from a place on
+use Prim.Native.Nat.{ℕ, zero, suc, _+_, _-_, _<_, _≤_}
+use native.Mathlib.Nat.{zero-add, suc-add}
+use native.Mathlib.Omega.{arith}
+use mathlib.Core.Path.{_≡_, refl, ap, sym, _∙_}
+use mathlib.Core.List.{List, [], _∷_}
+use lib.ListN.{length, getD, take, drop, length-take, length-drop}
+use lib.Seq.{getD-take, getD-drop, drop-drop, take-take, take-nil, drop-nil}
+use Rattle.base.specs.Bytes.{be16At, part}
+
+drop-take : (a n : ℕ) (l : List ℕ) → drop a (take n l) ≡ take (n - a) (drop a l)
+drop-take zero n l = let e : n - 0 ≡ n = omega arith in rw e
+drop-take (suc a) n [] = rw (take-nil n, take-nil (n - suc a))
+drop-take (suc a) zero (x ∷ l) = let e : 0 - suc a ≡ 0 = omega arith in rw e
+drop-take (suc a) (suc n) (x ∷ l) = let e : suc n - suc a ≡ n - a = omega arith in rw e (drop-take a n l)
+
+module _ (s : List ℕ) (a e : ℕ) where
+  pub length-part : e ≤ length s → length (part s a e) ≡ e - a
+  unfolding part
+  length-part h = simp (length-take, length-drop) (omega arith)
+
+  pub getD-part : (i : ℕ) → a + i < e → getD (part s a e) i 0 ≡ getD s (a + i) 0
+  unfolding part
+  getD-part i h = let g : i < e - a = omega arith in rw (getD-take (e - a) (drop a s) i 0 g, getD-drop a s i 0)
+
+  pub be16-part : (i : ℕ) → a + i + 1 < e → be16At (part s a e) i ≡ be16At s (a + i)
+  be16-part i h =
+      let n : a + (i + 1) ≡ a + i + 1 = omega arith in
+      rw (getD-part i (omega arith), getD-part (i + 1) (omega arith), n)
+
+  pub part-part : (i j : ℕ) → a + j ≤ e → part (part s a e) i j ≡ part s (a + i) (a + j)
+  unfolding part
+  part-part i j h =
+      let g : j - i ≤ e - a - i = omega arith in
+      let n : a + j - (a + i) ≡ j - i = omega arith in
+      rw (drop-take i (e - a) (drop a s), drop-drop i a s, take-take (j - i) (e - a - i) (drop (a + i) s) g, n)
+
+pub be16-drop : (at i : ℕ) (s : List ℕ) → be16At (drop at s) i ≡ be16At s (at + i)
+be16-drop at i s = let e : at + (i + 1) ≡ at + i + 1 = omega arith in rw (getD-drop at s i 0, getD-drop at s (i + 1) 0, e)
+
+pub part-drop : (at i j : ℕ) (s : List ℕ) → part (drop at s) i j ≡ part s (at + i) (at + j)
+unfolding part
+part-drop at i j s = let n : at + j - (at + i) ≡ j - i = omega arith in rw (drop-drop i at s, n)

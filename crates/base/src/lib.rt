@@ -1,0 +1,49 @@
+// Bytes as numbers, numbers of several bytes, and bits. Numbers are big-endian; bit 0 of a byte is its highest.
+ghost use mathlib.Core.Path.{_≡_};
+ghost use Prim.Native.Nat.{_+_, _<_};
+ghost use lib.ListN.{length, getD};
+ghost use Rattle.base.specs.Bytes.{be16At, be24At};
+ghost use Rattle.base.specs.Bits.{bitOn};
+
+// A byte as a number, with its bound.
+pub fn wide(x: u8) -> usize
+    ensures { λ r. ⌜ r ≡ x ⌝ }
+    ensures { λ r. ⌜ r < 256 ⌝ }
+{
+    x as usize
+}
+
+// The byte at a place, as a number with its bound: callers need no fact of the slice.
+pub fn byte(s: &[u8], at: usize) -> usize
+    requires { ⌜ at < length (now s) ⌝ }
+    ensures { λ r. ⌜ r ≡ getD (now (s .entry)) at 0 ⌝ }
+    ensures { λ r. ⌜ r < 256 ⌝ }
+{
+    s[at] as usize
+}
+
+// The two-byte number at a place.
+pub fn be16(s: &[u8], at: usize) -> usize
+    requires { ⌜ at + 1 < length (now s) ⌝ }
+    ensures { λ r. ⌜ r ≡ be16At (now (s .entry)) at ⌝ }
+    ensures { λ r. ⌜ r < 65536 ⌝ }
+{
+    byte(s, at) * 256 + byte(s, at + 1)
+}
+
+// The three-byte number at a place.
+pub fn be24(s: &[u8], at: usize) -> usize
+    requires { ⌜ at + 2 < length (now s) ⌝ }
+    ensures { λ r. ⌜ r ≡ be24At (now (s .entry)) at ⌝ }
+    ensures { λ r. ⌜ r < 16777216 ⌝ }
+{
+    byte(s, at) * 65536 + be16(s, at + 1)
+}
+
+// Whether bit k of a byte is on, bit 0 being the highest.
+pub fn bit(x: u8, k: u8) -> bool
+    requires { ⌜ k < 8 ⌝ }
+    ensures { λ r. ⌜ r ≡ bitOn k x ⌝ }
+{
+    (x >> (7 - k)) & 1 == 1
+}

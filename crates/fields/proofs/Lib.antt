@@ -1,0 +1,2 @@
+pub mod FieldAt
+pub mod Fields

@@ -1,0 +1,122 @@
+-- Steps through an image that decodes, and what the lookups of a track and a record make of them.
+--   next-record, no-record     from a record to the one behind it, and the end of a track
+--   next-home                  from a home address to its records
+--   track-here, track-on, no-more       the search for a track, field by field
+--   record-here, record-on              the search for a record number
+use Prim.Native.Nat.{ℕ, _+_, _-_, _<_, _≤_}
+use native.Mathlib.Omega.{arith}
+use mathlib.Core.Path.{_≡_, refl, ap, sym, _∙_}
+use mathlib.Core.Bool.{Bool, true, false, _&&_}
+use mathlib.Core.Option.{Option, none, some}
+use mathlib.Core.List.{List, [], _∷_}
+use lib.Dec.{eqb, leb}
+use lib.ListN.{length, getD}
+use borrow.Author.Tests.{eq-eqb, ne-eqb, eqb-true, eqb-false, leb-true, leb-false}
+use Rattle.base.specs.Choice.{pick, opt}
+use Rattle.base.proofs.Choice.{split, opt-some}
+use Rattle.fields.specs.declared.Tagged.{Tagged}
+use Rattle.fields.specs.declared.Tagged.the-variants.{Field, Torn}
+use Rattle.fields.specs.TaggedAt.{taggedAt}
+use Rattle.fields.proofs.FieldAt.{bounds}
+use Rattle.address.specs.declared.Address.{Address}
+use Rattle.address.specs.Order.{same}
+use Rattle.pack.specs.declared.HomeAt.{HomeAt}
+use Rattle.pack.specs.declared.HomeAt.the-variants.{Home, NoHome}
+use Rattle.pack.specs.declared.Place.{Place}
+use Rattle.pack.specs.declared.RecordAt.{RecordAt}
+use Rattle.pack.specs.declared.RecordAt.the-variants.{Located, NoRecord}
+use Rattle.pack.specs.Pack.{Record, Track, Decoded, ledByRecord, ledByHome, nothing, decodeAt, trackIn, numbered}
+use Rattle.pack.specs.Places.{onHome, onRecord, homeIn, homeAt, isTrack, placeIn, recordAt, recordFrom}
+use Rattle.pack.proofs.Decode.{led-by, decode-end, decode-torn, decode-field, decode-home, decode-record, decode-neither}
+
+some-is : {A : Type 0} {a b : A} → some a ≡ some b → a ≡ b
+some-is e = cc
+
+not-none : {A P : Type 0} {a : A} → none ≡ some a → P
+not-none e = let z : _≡_ {A = ℕ} 0 1 = cc in absurd (omega arith)
+
+module _ (s : List ℕ) (at : ℕ) (d : Decoded) (h : decodeAt s at ≡ some d) where
+  pub next-record : (p : Place) → recordAt s at ≡ Located p → (e : Decoded) × (decodeAt s (p .next) ≡ some e) × (d ≡ ledByRecord (recordFrom s p) e)
+  next-record p g =
+      let o = opt-some (decodeAt s (p .next)) (λ e. some (ledByRecord (recordFrom s p) e)) (sym (decode-record s at p g) ∙ h) in
+      (o .0, o .1, sym (some-is (o .2)))
+
+  pub next-home : (a : Address) (n : ℕ) → homeAt s at ≡ Home a n → (e : Decoded) × (decodeAt s n ≡ some e) × (d ≡ ledByHome a e)
+  next-home a n g =
+      let o = opt-some (decodeAt s n) (λ e. some (ledByHome a e)) (sym (decode-home s at a n g) ∙ h) in
+      (o .0, o .1, sym (some-is (o .2)))
+
+  pub no-record : recordAt s at ≡ NoRecord → d .records ≡ []
+  unfolding ledByHome
+  no-record g =
+      split (leb (length s) at)
+      (λ e. ap (λ (x : Decoded). x .records) (some-is (sym h ∙ decode-end s at (leb-true _ _ e))))
+      (λ e. by (homeAt s at) refl (leb-false (length s) at e))
+    where
+      by : (o : HomeAt) → homeAt s at ≡ o → at < length s → d .records ≡ []
+      by NoHome q l = not-none (sym (decode-neither s at l q g) ∙ h)
+      by (Home a n) q l = ap (λ (x : Decoded). x .records) (next-home a n q .2)
+
+  -- a field, with what is decoded behind it
+  next-field : {t st nx : ℕ} → taggedAt s at ≡ Field t st nx → (e : Decoded) × (decodeAt s nx ≡ some e) × (led-by s t st nx e ≡ some d)
+  next-field {t} {st} {nx} g = opt-some (decodeAt s nx) (led-by s t st nx) (sym (decode-field s at g) ∙ h)
+
+  module _ {t st nx : ℕ} (g : taggedAt s at ≡ Field t st nx) (a : Address) where
+    tracks-are : {x y : Decoded} → x ≡ y → trackIn (x .tracks) a ≡ trackIn (y .tracks) a
+    tracks-are e = ap (λ (x : Decoded). trackIn (x .tracks) a) e
+
+    pub track-here : isTrack s t st nx a ≡ true
+        → (u : Track) × (e : Decoded) × (trackIn (d .tracks) a ≡ some u) × (decodeAt s nx ≡ some e) × (e .records ≡ u .records)
+    unfolding isTrack led-by ledByHome trackIn pick
+    track-here i = by (homeIn s t st nx) refl
+      where
+        by : (o : HomeAt) → homeIn s t st nx ≡ o → (u : Track) × (e : Decoded) × (trackIn (d .tracks) a ≡ some u) × (decodeAt s nx ≡ some e) × (e .records ≡ u .records)
+        by NoHome q = let w : false ≡ true = rw q at i in let z : _≡_ {A = ℕ} 0 1 = cc in absurd (omega arith)
+        by (Home b n) q =
+            let o = next-field g in
+            let w : same b a ≡ true = rw q at i in
+            let v : some (ledByHome b (o .0)) ≡ some d = rw q at (o .2) in
+            (record { at = b; records = o .0 .records }, o .0, tracks-are (sym (some-is v)) ∙ rw w, o .1, refl)
+
+    pub track-on : isTrack s t st nx a ≡ false → (e : Decoded) × (decodeAt s nx ≡ some e) × (trackIn (d .tracks) a ≡ trackIn (e .tracks) a)
+    unfolding isTrack led-by ledByHome ledByRecord trackIn pick
+    track-on i = by (homeIn s t st nx) refl
+      where
+        record-by : homeIn s t st nx ≡ NoHome → (o : RecordAt) → placeIn s t st nx ≡ o → (e : Decoded) × (decodeAt s nx ≡ some e) × (trackIn (d .tracks) a ≡ trackIn (e .tracks) a)
+        record-by q NoRecord r = let o = next-field g in let v : none ≡ some d = rw (q, r) at (o .2) in not-none v
+        record-by q (Located p) r =
+            let o = next-field g in
+            let v : some (ledByRecord (recordFrom s p) (o .0)) ≡ some d = rw (q, r) at (o .2) in
+            (o .0, o .1, tracks-are (sym (some-is v)))
+        by : (o : HomeAt) → homeIn s t st nx ≡ o → (e : Decoded) × (decodeAt s nx ≡ some e) × (trackIn (d .tracks) a ≡ trackIn (e .tracks) a)
+        by NoHome q = record-by q (placeIn s t st nx) refl
+        by (Home b n) q =
+            let o = next-field g in
+            let w : same b a ≡ false = rw q at i in
+            let v : some (ledByHome b (o .0)) ≡ some d = rw q at (o .2) in
+            (o .0, o .1, tracks-are (sym (some-is v)) ∙ rw w)
+
+-- bytes that decode and have no field at a place end there
+pub no-more : (s : List ℕ) (at : ℕ) (d : Decoded) → decodeAt s at ≡ some d → taggedAt s at ≡ Torn → (a : Address) → trackIn (d .tracks) a ≡ none
+unfolding trackIn
+no-more s at d h g a =
+    split (leb (length s) at)
+    (λ e. ap (λ (x : Decoded). trackIn (x .tracks) a) (some-is (sym h ∙ decode-end s at (leb-true _ _ e))))
+    (λ e. not-none (sym (decode-torn s at (leb-false (length s) at e) g) ∙ h))
+
+module _ (s : List ℕ) (at : ℕ) (d : Decoded) (h : decodeAt s at ≡ some d) (p : Place) (g : recordAt s at ≡ Located p) (r : ℕ) where
+  pub record-here : p .r ≡ r → numbered (d .records) r ≡ some (recordFrom s p)
+  unfolding numbered ledByRecord recordFrom pick
+  record-here q =
+      let n = next-record s at d h p g in
+      ap (λ (x : Decoded). numbered (x .records) r) (n .2) ∙ rw (eq-eqb _ _ q)
+
+  pub record-on : (p .r ≡ r → ⊥) → (e : Decoded) × (decodeAt s (p .next) ≡ some e) × (numbered (d .records) r ≡ numbered (e .records) r)
+  unfolding numbered ledByRecord recordFrom pick
+  record-on q =
+      let n = next-record s at d h p g in
+      (n .0, n .1, ap (λ (x : Decoded). numbered (x .records) r) (n .2) ∙ rw (ne-eqb _ _ q))
+
+pub record-none : (s : List ℕ) (at : ℕ) (d : Decoded) → decodeAt s at ≡ some d → recordAt s at ≡ NoRecord → (r : ℕ) → numbered (d .records) r ≡ none
+unfolding numbered
+record-none s at d h g r = rw (no-record s at d h g)

@@ -1,0 +1,97 @@
+// The questions that a call asks in number order, and question 1: the sizes of the lent areas and the command limit.
+ghost use mathlib.Core.Path.{_≡_};
+ghost use Rattle.questions.specs.Areas;
+ghost use Rattle.questions.specs.Number.{numberOf};
+
+// What a refusal names: the first question whose answer is no.
+pub enum Question {
+    Areas,
+    Image,
+    Faults,
+    Report,
+    Extent,
+    Row,
+    Action,
+    Format,
+    Agreement,
+}
+
+// What a check answers.
+pub enum Checked {
+    Accepted,
+    Refused(Question),
+}
+
+// The number of a question.
+pub fn number(q: Question) -> u8
+    ensures { λ r. ⌜ r ≡ numberOf q ⌝ }
+{
+    match q {
+        Question::Areas => 1,
+        Question::Image => 2,
+        Question::Faults => 3,
+        Question::Report => 4,
+        Question::Extent => 5,
+        Question::Row => 6,
+        Question::Action => 7,
+        Question::Format => 8,
+        Question::Agreement => 9,
+    }
+}
+
+pub fn chain_fits(n: usize) -> bool
+    ensures { λ r. ⌜ r ≡ Areas.chainFits n ⌝ }
+{
+    if n < 8 {
+        return false;
+    }
+    if 2048 < n {
+        return false;
+    }
+    n % 8 == 0
+}
+
+pub fn arguments_fit(n: usize) -> bool
+    ensures { λ r. ⌜ r ≡ Areas.argumentsFit n ⌝ }
+{
+    n <= 4096
+}
+
+pub fn storage_fits(n: usize) -> bool
+    ensures { λ r. ⌜ r ≡ Areas.storageFits n ⌝ }
+{
+    n <= 65536
+}
+
+pub fn faults_fit(n: usize) -> bool
+    ensures { λ r. ⌜ r ≡ Areas.faultsFit n ⌝ }
+{
+    n <= 65536
+}
+
+pub fn image_fits(n: usize) -> bool
+    ensures { λ r. ⌜ r ≡ Areas.imageFits n ⌝ }
+{
+    n <= 1048576
+}
+
+pub fn program_fits(n: usize) -> bool
+    ensures { λ r. ⌜ r ≡ Areas.programFits n ⌝ }
+{
+    n == 64
+}
+
+pub fn restart_arguments_fit(n: usize) -> bool
+    ensures { λ r. ⌜ r ≡ Areas.restartArgumentsFit n ⌝ }
+{
+    n == 16
+}
+
+pub fn limit_fits(n: usize) -> bool
+    ensures { λ r. ⌜ r ≡ Areas.limitFits n ⌝ }
+{
+    if n < 1 {
+        return false;
+    }
+    n <= 4096
+}

@@ -1,0 +1,138 @@
+//! The proved library against the simulator, on inputs that a fixed seed gives.
+//!
+//! Another seed may be given as the only argument.
+
+#[path = "../simulator/mod.rs"]
+mod simulator;
+
+mod compare;
+mod damage;
+mod exhaustive;
+mod generate;
+mod library;
+mod limits;
+mod random;
+mod sizes;
+mod sought;
+mod tally;
+
+use compare::{Comparison, Disagreement, FOUND_FAULT, FOUND_RECORD};
+use generate::{decoded, written, SHAPES};
+use random::Random;
+use simulator::faults::{FaultList, FAULT};
+use simulator::pack::{HOME_ADDRESS, RECORD};
+use simulator::sample;
+use sought::{fault_sought, found_length, place_sought};
+use std::process::ExitCode;
+
+const SEED: u64 = 33_300_001;
+
+/// Every kind of damage is done in its turn, at least 300 times.
+const ROUNDS: usize = 15_000;
+
+fn main() -> ExitCode {
+    let seed = match std::env::args().nth(1) {
+        Some(text) => text.parse().expect("the seed is a decimal number"),
+        None => SEED,
+    };
+    println!("seed {seed}");
+    let mut comparison = Comparison::default();
+    if let Err(disagreement) = compare_all(&mut comparison, &mut Random::new(seed)) {
+        println!("{disagreement}");
+        return ExitCode::FAILURE;
+    }
+    let tally = comparison.tally;
+    tally.print();
+    let never_seen = tally.never_seen();
+    if !never_seen.is_empty() {
+        println!("never seen: {}", never_seen.join(", "));
+        return ExitCode::FAILURE;
+    }
+    println!("{} inputs compared, 0 disagreements", tally.compared);
+    ExitCode::SUCCESS
+}
+
+fn compare_all(comparison: &mut Comparison, random: &mut Random) -> Result<(), Disagreement> {
+    exhaustive::compare_all(comparison)?;
+    for turn in 0..ROUNDS {
+        well_formed(comparison, random, turn)?;
+        damaged(comparison, random, turn)?;
+        without_plan(comparison, random)?;
+        extents(comparison, random, turn)?;
+        area_sizes(comparison, random, turn)?;
+    }
+    limits::compare_all(comparison, random)
+}
+
+fn well_formed(
+    comparison: &mut Comparison,
+    random: &mut Random,
+    turn: usize,
+) -> Result<(), Disagreement> {
+    let (shape, draft) = SHAPES[turn % SHAPES.len()];
+    let image = written(&draft(random));
+    comparison.image(shape, &image)?;
+    let pack = decoded(&image);
+    for _ in 0..4 {
+        let (kind, sought) = place_sought(random, &pack);
+        let found_len = found_length(random, FOUND_RECORD);
+        comparison.find_record(kind, &image, &pack, sought, found_len)?;
+    }
+    let list = written(&generate::faults(random, &pack));
+    comparison.faults(shape, &image, &list)?;
+    let faults = FaultList::decode(&list, &pack).expect("a generated list is well formed");
+    for _ in 0..2 {
+        let (kind, sought) = fault_sought(random, &pack, &faults);
+        let found_len = found_length(random, FOUND_FAULT);
+        comparison.find_fault(kind, &list, &faults, sought, found_len)?;
+    }
+    Ok(())
+}
+
+fn damaged(
+    comparison: &mut Comparison,
+    random: &mut Random,
+    turn: usize,
+) -> Result<(), Disagreement> {
+    let draft = generate::ground(random);
+    let image = written(&draft);
+    let pack = decoded(&image);
+    let faults = generate::faults(random, &pack);
+    let (kind, damaged_image) = damage::damaged_image(random, turn, &draft);
+    comparison.image(kind, &damaged_image)?;
+    let (kind, damaged_faults) = damage::damaged_faults(random, turn, &faults, &pack);
+    comparison.faults(kind, &image, &damaged_faults)?;
+    comparison.faults("image damaged", &damaged_image, &written(&faults))?;
+    comparison.faults("image and list damaged", &damaged_image, &damaged_faults)
+}
+
+fn without_plan(comparison: &mut Comparison, random: &mut Random) -> Result<(), Disagreement> {
+    let fields = [(HOME_ADDRESS, 5), (RECORD, 8), (RECORD, 9)];
+    let (kind, image) = generate::without_plan(random, &fields);
+    comparison.image(kind, &image)?;
+    let (kind, faults) = generate::without_plan(random, &[(FAULT, 10)]);
+    comparison.faults(kind, &sample::IMAGE, &faults)
+}
+
+fn extents(
+    comparison: &mut Comparison,
+    random: &mut Random,
+    turn: usize,
+) -> Result<(), Disagreement> {
+    let extent = generate::extent(random);
+    comparison.extent("well formed", &extent)?;
+    let (kind, damaged) = damage::damaged_extent(random, turn, &extent);
+    comparison.extent(kind, &damaged)?;
+    let length = random.pick(&[0, 4, 7, 8, 8, 9, 16]);
+    comparison.extent("random bytes", &random.bytes(length))
+}
+
+fn area_sizes(
+    comparison: &mut Comparison,
+    random: &mut Random,
+    turn: usize,
+) -> Result<(), Disagreement> {
+    let (kind, sizes) = sizes::run_sizes(random, turn);
+    comparison.areas(kind, sizes)?;
+    comparison.restart_areas("edges", sizes::restart_sizes(random))
+}

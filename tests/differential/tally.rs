@@ -1,0 +1,133 @@
+//! How often each answer and each broken rule was seen.
+
+use crate::simulator::areas::Area;
+use crate::simulator::extent::ExtentRule;
+use crate::simulator::faults::FaultRule;
+use crate::simulator::pack::ImageRule;
+use crate::simulator::Refusal;
+use std::collections::BTreeMap;
+use std::fmt;
+
+/// A call, and the answers that it has.
+#[derive(Clone, Copy, PartialEq, Eq, PartialOrd, Ord)]
+pub struct Call {
+    pub name: &'static str,
+    answers: &'static [u8],
+}
+
+pub const CHECK_IMAGE: Call = Call {
+    name: "giruve_check_image",
+    answers: &[0, 1, 2],
+};
+pub const CHECK_FAULTS: Call = Call {
+    name: "giruve_check_faults",
+    answers: &[0, 1, 2, 3],
+};
+pub const CHECK_EXTENT: Call = Call {
+    name: "giruve_check_extent",
+    answers: &[0, 1, 5],
+};
+pub const CHECK_AREAS: Call = Call {
+    name: "giruve_check_areas",
+    answers: &[0, 1],
+};
+pub const CHECK_RESTART_AREAS: Call = Call {
+    name: "giruve_check_restart_areas",
+    answers: &[0, 1],
+};
+pub const FIND_RECORD: Call = Call {
+    name: "giruve_find_record",
+    answers: &[0, 1, 2, 3],
+};
+pub const FIND_FAULT: Call = Call {
+    name: "giruve_find_fault",
+    answers: &[0, 1, 3],
+};
+
+const CALLS: [Call; 7] = [
+    CHECK_IMAGE,
+    CHECK_FAULTS,
+    CHECK_EXTENT,
+    CHECK_AREAS,
+    CHECK_RESTART_AREAS,
+    FIND_RECORD,
+    FIND_FAULT,
+];
+
+type Answers = BTreeMap<u8, u64>;
+
+#[derive(Default)]
+pub struct Tally {
+    /// Inputs compared.
+    pub compared: u64,
+    answers: BTreeMap<(Call, &'static str), Answers>,
+    rules: BTreeMap<Refusal, u64>,
+}
+
+impl Tally {
+    pub fn count(&mut self, call: Call, kind: &'static str, answer: u8) {
+        self.compared += 1;
+        let answers = self.answers.entry((call, kind)).or_default();
+        *answers.entry(answer).or_default() += 1;
+    }
+
+    pub fn count_rule(&mut self, refusal: Refusal) {
+        *self.rules.entry(refusal).or_default() += 1;
+    }
+
+    /// Prints how often each answer was seen, by call and by kind, and each broken rule.
+    pub fn print(&self) {
+        for call in CALLS {
+            println!("{:<36}{}", call.name, Counts(&self.total(call)));
+            for ((_, kind), answers) in self.kinds(call) {
+                println!("  {kind:<34}{}", Counts(answers));
+            }
+        }
+        println!("rules broken, as the simulator names them");
+        for (rule, times) in &self.rules {
+            println!("  {:<34}{times:>9}", format!("{rule:?}"));
+        }
+    }
+
+    /// Answers and rules that no input brought out.
+    pub fn never_seen(&self) -> Vec<String> {
+        let answers = CALLS.iter().flat_map(|&call| {
+            let seen = self.total(call);
+            let missing = call
+                .answers
+                .iter()
+                .filter(move |&&answer| !seen.contains_key(&answer));
+            missing.map(move |answer| format!("{} answering {answer}", call.name))
+        });
+        let rules = (Area::ALL.iter().copied().map(Refusal::Areas))
+            .chain(ImageRule::ALL.iter().copied().map(Refusal::Image))
+            .chain(FaultRule::ALL.iter().copied().map(Refusal::Faults))
+            .chain(ExtentRule::ALL.iter().copied().map(Refusal::Extent))
+            .filter(|rule| !self.rules.contains_key(rule))
+            .map(|rule| format!("{rule:?}"));
+        answers.chain(rules).collect()
+    }
+
+    fn kinds(&self, call: Call) -> impl Iterator<Item = (&(Call, &'static str), &Answers)> {
+        self.answers.iter().filter(move |((of, _), _)| *of == call)
+    }
+
+    fn total(&self, call: Call) -> Answers {
+        let mut total = Answers::new();
+        for (answer, times) in self.kinds(call).flat_map(|(_, answers)| answers) {
+            *total.entry(*answer).or_default() += times;
+        }
+        total
+    }
+}
+
+/// Each answer and how often it was seen.
+struct Counts<'a>(&'a Answers);
+
+impl fmt::Display for Counts<'_> {
+    fn fmt(&self, out: &mut fmt::Formatter) -> fmt::Result {
+        self.0
+            .iter()
+            .try_for_each(|(answer, times)| write!(out, "  {answer}: {times:<7}"))
+    }
+}

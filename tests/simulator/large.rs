@@ -1,0 +1,82 @@
+//! Well formed images of an exact size, up to the limit and past it.
+
+use super::encode::{put_home_address, put_record};
+use super::pack::{TrackAddress, LAST_HEAD, LONGEST_RECORD};
+
+/// What each track has: R0 with 8 bytes of data, then records of one length with no key.
+#[derive(Clone, Copy)]
+pub struct TracksOf {
+    pub records: u8,
+    pub data_length: usize,
+}
+
+impl TracksOf {
+    pub const TWO_RECORDS: TracksOf = TracksOf {
+        records: 2,
+        data_length: 48,
+    };
+    pub const MANY_RECORDS: TracksOf = TracksOf {
+        records: 255,
+        data_length: 1,
+    };
+    pub const LONG_RECORD: TracksOf = TracksOf {
+        records: 1,
+        data_length: LONGEST_RECORD,
+    };
+}
+
+/// Bytes of a record beside its key and data: tag, length and count area.
+const RECORD_HEAD: usize = 3 + 8;
+const HOME_ADDRESS_FIELD: usize = 3 + 5;
+const R0_DATA: usize = 8;
+
+/// The track that stands at `place` of a whole pack.
+pub fn track_at(place: usize) -> TrackAddress {
+    let heads = usize::from(LAST_HEAD) + 1;
+    TrackAddress {
+        cylinder: (place / heads) as u16,
+        head: (place % heads) as u16,
+    }
+}
+
+/// Such tracks from 000/00 on, then one track more that fills `size` bytes, at least 27, exactly.
+pub fn image_of(size: usize, tracks: TracksOf) -> Vec<u8> {
+    let each = HOME_ADDRESS_FIELD
+        + RECORD_HEAD
+        + R0_DATA
+        + usize::from(tracks.records) * (RECORD_HEAD + tracks.data_length);
+    let mut image = Vec::with_capacity(size);
+    let mut place = 0;
+    while image.len() + each + HOME_ADDRESS_FIELD + RECORD_HEAD + R0_DATA <= size {
+        let track = track_at(place);
+        put_home_address(&mut image, track);
+        put_data(&mut image, track, 0, R0_DATA);
+        for number in 1..=tracks.records {
+            put_data(&mut image, track, number, tracks.data_length);
+        }
+        place += 1;
+    }
+    fill(&mut image, size, track_at(place));
+    image
+}
+
+fn put_data(image: &mut Vec<u8>, track: TrackAddress, number: u8, data_length: usize) {
+    put_record(image, track, number, &[], &vec![number; data_length]);
+}
+
+/// A last track whose records end at `size`.
+fn fill(image: &mut Vec<u8>, size: usize, track: TrackAddress) {
+    put_home_address(image, track);
+    let mut number = 0;
+    while image.len() < size {
+        let left = size - image.len() - RECORD_HEAD;
+        // What stays must be nothing or room for one more record.
+        let data_length = if left <= LONGEST_RECORD {
+            left
+        } else {
+            LONGEST_RECORD.min(left - RECORD_HEAD)
+        };
+        put_data(image, track, number, data_length);
+        number += 1;
+    }
+}

@@ -1,0 +1,91 @@
+//! Document 01 written a second time, in plain Rust, to be compared with the proved library.
+//!
+//! Decoded values borrow from the lent bytes. Where a call is refused the rule that decided is
+//! named beside the question's number, so that a test can tell the rules of one question apart.
+
+// Each program that includes the simulator uses a part of it.
+#![allow(dead_code)]
+
+/// An enum of the rules of a question, and the list of them all.
+macro_rules! rules {
+    ($(#[$about:meta])* $name:ident { $($rule:ident),* $(,)? }) => {
+        $(#[$about])*
+        #[derive(Clone, Copy, Debug, PartialEq, Eq, PartialOrd, Ord)]
+        pub enum $name { $($rule),* }
+
+        impl $name {
+            pub const ALL: &'static [$name] = &[$($name::$rule),*];
+        }
+    };
+}
+
+pub mod areas;
+pub mod encode;
+pub mod extent;
+pub mod faults;
+pub mod fields;
+pub mod large;
+pub mod pack;
+pub mod sample;
+
+use areas::Area;
+use extent::{Extent, ExtentRule};
+use faults::{FaultList, FaultRule};
+use pack::{ImageRule, Pack};
+
+/// The last cylinder of the pack. What depends on it takes it as an argument.
+pub const LAST_CYLINDER: u16 = 410;
+
+/// A question answered no, and the rule of it that was broken.
+#[derive(Clone, Copy, Debug, PartialEq, Eq, PartialOrd, Ord)]
+pub enum Refusal {
+    Areas(Area),
+    Image(ImageRule),
+    Faults(FaultRule),
+    Extent(ExtentRule),
+}
+
+impl Refusal {
+    /// The question's number.
+    pub fn number(self) -> u8 {
+        match self {
+            Refusal::Areas(_) => 1,
+            Refusal::Image(_) => 2,
+            Refusal::Faults(_) => 3,
+            Refusal::Extent(_) => 5,
+        }
+    }
+}
+
+/// 0 for what is accepted, else the number of the question.
+pub fn answer<T>(checked: &Result<T, Refusal>) -> u8 {
+    match checked {
+        Ok(_) => 0,
+        Err(refusal) => refusal.number(),
+    }
+}
+
+/// Questions 1 and 2 of an image.
+pub fn check_image(image: &[u8], last_cylinder: u16) -> Result<(), Refusal> {
+    Area::Image.check(image.len())?;
+    pack::check(image, last_cylinder).map_err(Refusal::Image)
+}
+
+/// Questions 1, 2 and 3 of an image and its fault list.
+pub fn check_faults<'a>(
+    image: &'a [u8],
+    faults: &[u8],
+    last_cylinder: u16,
+) -> Result<(Pack<'a>, FaultList), Refusal> {
+    Area::Image.check(image.len())?;
+    Area::FaultList.check(faults.len())?;
+    let pack = Pack::decode(image, last_cylinder).map_err(Refusal::Image)?;
+    let faults = FaultList::decode(faults, &pack).map_err(Refusal::Faults)?;
+    Ok((pack, faults))
+}
+
+/// Questions 1 and 5 of an extent.
+pub fn check_extent(extent: &[u8], last_cylinder: u16) -> Result<Extent, Refusal> {
+    Area::Extent.check(extent.len())?;
+    Extent::decode(extent, last_cylinder).map_err(Refusal::Extent)
+}
