@@ -3,7 +3,7 @@
 use crate::random::Random;
 use crate::simulator::areas::RunSizes;
 
-/// Sizes at and past an edge, and numbers that come out small in fewer bits.
+/// Sizes at an edge and past it.
 struct Edges {
     allowed: &'static [usize],
     refused: &'static [usize],
@@ -25,47 +25,36 @@ impl Edges {
     }
 }
 
+/// What is added to this comes out small where a size is cut to 32 bits.
+const FAR: usize = 1 << 32;
+
 const CHAIN: Edges = Edges {
     allowed: &[8, 16, 40, 1_024, 2_040, 2_048],
-    refused: &[
-        0,
-        1,
-        4,
-        7,
-        9,
-        12,
-        15,
-        2_044,
-        2_047,
-        2_049,
-        2_056,
-        (1 << 32) + 8,
-        usize::MAX - 7,
-    ],
+    refused: &[0, 4, 7, 9, 12, 2_044, 2_049, 2_056, FAR + 8, usize::MAX],
 };
 const ARGUMENTS: Edges = Edges {
     allowed: &[0, 1, 11, 4_095, 4_096],
-    refused: &[4_097, 65_536, 1 << 32, usize::MAX],
+    refused: &[4_097, 65_536, FAR, usize::MAX],
 };
 const STORAGE: Edges = Edges {
     allowed: &[0, 1, 4_096, 65_535, 65_536],
-    refused: &[65_537, 131_072, 1 << 32, usize::MAX],
+    refused: &[65_537, 131_072, FAR, usize::MAX],
 };
 const IMAGE: Edges = Edges {
     allowed: &[0, 57, 65_537, 1_048_575, 1_048_576],
-    refused: &[1_048_577, 2_097_152, 1 << 32, usize::MAX],
+    refused: &[1_048_577, 2_097_152, FAR, usize::MAX],
 };
 const LIMIT: Edges = Edges {
     allowed: &[1, 2, 4_095, 4_096],
-    refused: &[0, 4_097, 8_192, (1 << 32) + 1, usize::MAX],
+    refused: &[0, 4_097, 8_192, FAR + 1, usize::MAX],
 };
 const RESTART_PROGRAM: Edges = Edges {
     allowed: &[64],
-    refused: &[0, 16, 56, 63, 65, 72, (1 << 32) + 64, usize::MAX],
+    refused: &[0, 16, 56, 63, 65, 72, FAR + 64, usize::MAX],
 };
 const RESTART_ARGUMENTS: Edges = Edges {
     allowed: &[16],
-    refused: &[0, 8, 15, 17, 64, (1 << 32) + 16, usize::MAX],
+    refused: &[0, 8, 15, 17, 64, FAR + 16, usize::MAX],
 };
 
 /// Sizes for a run, of which the named one, or each, may be refused.

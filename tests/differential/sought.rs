@@ -3,7 +3,8 @@
 use crate::library::Sought;
 use crate::random::Random;
 use crate::simulator::faults::FaultList;
-use crate::simulator::pack::Pack;
+use crate::simulator::large::track_at;
+use crate::simulator::pack::{Pack, TrackAddress};
 
 /// The right length, or now and then another.
 pub fn found_length(random: &mut Random, right: usize) -> usize {
@@ -14,28 +15,25 @@ pub fn found_length(random: &mut Random, right: usize) -> usize {
     }
 }
 
+fn sought(track: TrackAddress, record: usize) -> Sought {
+    Sought {
+        cylinder: track.cylinder.into(),
+        head: track.head.into(),
+        record,
+    }
+}
+
 /// A place on some track, most often one that is there.
 pub fn place_sought(random: &mut Random, pack: &Pack) -> (&'static str, Sought) {
     let tracks: Vec<_> = pack.tracks().collect();
     if tracks.is_empty() {
-        return elsewhere(
-            random,
-            Sought {
-                cylinder: 0,
-                head: 0,
-                record: 0,
-            },
-        );
+        return elsewhere(random, sought(track_at(0), 0));
     }
     let (track, records) = random.pick(&tracks);
     let last = records.len() - 1;
     let anywhere = random.within(0..=last);
-    let sought = Sought {
-        cylinder: track.cylinder.into(),
-        head: track.head.into(),
-        record: random.pick(&[0, last, last + 1, anywhere, anywhere]),
-    };
-    elsewhere(random, sought)
+    let place = random.pick(&[0, last, last + 1, anywhere, anywhere]);
+    elsewhere(random, sought(track, place))
 }
 
 /// A record of the list or of the pack.
@@ -53,22 +51,10 @@ pub fn fault_sought(
         listed.collect()
     };
     if known.is_empty() {
-        return elsewhere(
-            random,
-            Sought {
-                cylinder: 0,
-                head: 0,
-                record: 1,
-            },
-        );
+        return elsewhere(random, sought(track_at(0), 1));
     }
     let (track, number) = random.pick(&known);
-    let sought = Sought {
-        cylinder: track.cylinder.into(),
-        head: track.head.into(),
-        record: number.into(),
-    };
-    elsewhere(random, sought)
+    elsewhere(random, sought(track, number.into()))
 }
 
 /// What is sought as it is, or one of its numbers changed.

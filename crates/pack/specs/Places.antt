@@ -1,6 +1,6 @@
 -- Home addresses and records by their places in the bytes of an image: what the code that looks them up answers.
 -- The laws in proofs/Decode tie them to the decoded pack.
-use Prim.Native.Nat.{ℕ, _+_, _-_}
+use Prim.Native.Nat.{ℕ, _+_, _-_, _<_}
 use mathlib.Core.Path.{_≡_}
 use mathlib.Core.Bool.{Bool, false, _&&_}
 use mathlib.Core.Option.{none, some}
@@ -68,6 +68,11 @@ placeIn s tag st nx = pick (eqb tag 2 && isRecord s st nx) (Located (placed s st
 
 unfoldable pub recordAt : List ℕ → ℕ → RecordAt
 recordAt s at = onTagged (taggedAt s at) NoRecord (placeIn s)
+
+-- the bounds of what stands in bytes: R and the key's length in one, the data's length in two
+abbrev pub InBytes : RecordAt → Type 0
+InBytes NoRecord = Unit {0}
+InBytes (Located p) = (p .r < 256) × (p .body < p .key + 256) × (p .next < p .body + 65536)
 
 -- the record at a place, with the bytes of its key and data
 unfoldable pub recordFrom : List ℕ → Place → Record

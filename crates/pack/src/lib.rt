@@ -4,7 +4,7 @@ use fields::Tagged;
 ghost use mathlib.Core.Path.{_≡_};
 ghost use Prim.Native.Nat.{_<_, _≤_};
 ghost use lib.ListN.{length};
-ghost use Rattle.pack.specs.Places.{homeIn, homeAt, isTrack, placeIn, recordAt, TrackFound, RecordFound};
+ghost use Rattle.pack.specs.Places.{homeIn, homeAt, isTrack, placeIn, recordAt, InBytes, TrackFound, RecordFound};
 
 // What stands at a place: a home address, with the place behind its field, or none.
 pub enum HomeAt {
@@ -102,6 +102,7 @@ fn record_in(image: &[u8], tag: u8, start: usize, next: usize) -> RecordAt
     requires { ⌜ start ≤ next ⌝ }
     requires { ⌜ next ≤ length (now image) ⌝ }
     ensures { λ r. ⌜ r ≡ placeIn (now (image .entry)) tag start next ⌝ }
+    ensures { λ r. ⌜ InBytes r ⌝ }
 {
     if tag != 2 {
         return RecordAt::NoRecord;
@@ -128,6 +129,7 @@ fn record_in(image: &[u8], tag: u8, start: usize, next: usize) -> RecordAt
 
 pub fn record_at(image: &[u8], at: usize) -> RecordAt
     ensures { λ r. ⌜ r ≡ recordAt (now (image .entry)) at ⌝ }
+    ensures { λ r. ⌜ InBytes r ⌝ }
 {
     let Tagged::Field { tag, start, next } = fields::field_at(image, at) else {
         return RecordAt::NoRecord;

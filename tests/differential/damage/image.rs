@@ -112,15 +112,8 @@ const IMAGE: [ToFields; 33] = [
     }),
     ("R twice", |random, draft| {
         let track = any_track(random, draft);
-        let others = track.start + 2..track.end;
-        let from = random.within(others.start..=others.end - 1);
-        let to = random.within(others.start..=others.end - 1);
-        // The first and the last where the same was drawn twice.
-        let (from, to) = if from == to {
-            (others.start, others.end - 1)
-        } else {
-            (from, to)
-        };
+        let from = random.within(track.start + 2..=track.end - 2);
+        let to = random.within(from + 1..=track.end - 1);
         draft[to].contents[4] = draft[from].contents[4];
     }),
     ("R of one record", |random, draft| {

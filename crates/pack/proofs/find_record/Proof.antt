@@ -36,7 +36,7 @@ returns c =
     λ d h.
     let call = c .before .before in
     let i = call .before .loop .inv d h in
-    i .2 ∙ record-none _ _ (i .0) (i .1) (sym (call .record-at .ensures) ∙ c .enum-told .given .1) _
+    i .2 ∙ record-none _ _ (i .0) (i .1) (sym (call .record-at .ensures .0) ∙ c .enum-told .given .1) _
 
 returns-2 : tie.Need-returns-2 Inv-loop μ-loop
 returns-2 c =
@@ -44,12 +44,12 @@ returns-2 c =
     let found = c .before .before .before in
     let call = found .before .before in
     let i = call .before .loop .inv d h in
-    i .2 ∙ record-here _ _ (i .0) (i .1) _ (sym (call .record-at .ensures) ∙ found .p .given .1) _ (c .if1 .taken)
+    i .2 ∙ record-here _ _ (i .0) (i .1) _ (sym (call .record-at .ensures .0) ∙ found .p .given .1) _ (c .if1 .taken)
 
 loop-less : tie.Need-loop-less Inv-loop μ-loop
 loop-less c =
     let found = c .before .before .before in
-    let b = record-bounds _ _ _ (sym (found .before .before .record-at .ensures) ∙ found .p .given .1) in
+    let b = record-bounds _ _ _ (sym (found .before .before .record-at .ensures .0) ∙ found .p .given .1) in
     omega (arith, b .behind, b .in-order, b .inside)
 
 loop-again : tie.Need-loop-again Inv-loop μ-loop
@@ -58,7 +58,7 @@ loop-again c =
     let found = c .before .before .before in
     let call = found .before .before in
     let i = call .before .loop .inv d h in
-    let t = record-on _ _ (i .0) (i .1) _ (sym (call .record-at .ensures) ∙ found .p .given .1) _ (c .if1 .left) in
+    let t = record-on _ _ (i .0) (i .1) _ (sym (call .record-at .ensures .0) ∙ found .p .given .1) _ (c .if1 .left) in
     (t .0, t .1, i .2 ∙ t .2)
 
 pub find-record-spec : {M : Type 1} → statement M

@@ -17,7 +17,7 @@ enum-told : tie.Need-enum-told
 enum-told c = search needs
 
 returns : tie.Need-returns
-returns c = record-torn _ _ (sym (c .enum-told .given .1) ∙ c .before .before .field-at .ensures)
+returns c = (record-torn _ _ (sym (c .enum-told .given .1) ∙ c .before .before .field-at .ensures), tt)
 
 record-in-requires : tie.Need-record-in-requires
 record-in-requires c κs =
@@ -25,7 +25,7 @@ record-in-requires c κs =
     (b .1, b .2)
 
 returns-2 : tie.Need-returns-2
-returns-2 c = record-field _ _ (sym (c .before .before .before .before .field-at .ensures) ∙ c .before .before .tag .given .1) (c .record-in .ensures)
+returns-2 c = (record-field _ _ (sym (c .before .before .before .before .field-at .ensures) ∙ c .before .before .tag .given .1) (c .record-in .ensures .0), c .record-in .ensures .1)
 
 pub record-at-spec : {M : Type 1} → statement M
 record-at-spec =

@@ -1,17 +1,18 @@
 -- `pack::record_in` meets its contract: each answer is a law of `placeIn` at the tests that led there. Assumes nothing.
 use Rattle.pack.proofs.Answers.{not-record, record-short, record-length, record-whole}
 use borrow.Author.Needs.{needs}
+use native.Mathlib.Omega.{arith}
 use Rattle.pack.proofs.record_in.Statement.{statement}
 use Rattle.pack.proofs.record_in.Tie as tie
 
 returns : tie.Need-returns
-returns c = not-record _ _ _ _ (c .if1 .taken)
+returns c = (not-record _ _ _ _ (c .if1 .taken), tt)
 
 sub-if2 : tie.Need-sub-if2
 sub-if2 c = search needs
 
 returns-2 : tie.Need-returns-2
-returns-2 c = record-short _ _ _ _ (c .before .if1 .left) (c .if2 .taken)
+returns-2 c = (record-short _ _ _ _ (c .before .if1 .left) (c .if2 .taken), tt)
 
 add-byte : tie.Need-add-byte
 add-byte c = search needs
@@ -37,7 +38,7 @@ add-if3-2 c = search needs
 returns-3 : tie.Need-returns-3
 returns-3 c =
     let lengths = c .before in
-    record-length _ _ _ _ (lengths .before .before .before .if1 .left) (lengths .before .before .if2 .left) _ _ (lengths .before .byte .ensures .0) (lengths .be16 .ensures .0) (c .if3 .taken)
+    (record-length _ _ _ _ (lengths .before .before .before .if1 .left) (lengths .before .before .if2 .left) _ _ (lengths .before .byte .ensures .0) (lengths .be16 .ensures .0) (c .if3 .taken), tt)
 
 be16-requires-2 : tie.Need-be16-requires-2
 be16-requires-2 c κs = search needs
@@ -66,8 +67,9 @@ add-t16 c = search needs
 returns-4 : tie.Need-returns-4
 returns-4 c =
     let lengths = c .before .before .before .before in
-    record-whole _ _ _ _ (lengths .before .before .before .if1 .left) (lengths .before .before .if2 .left) _ _ (lengths .before .byte .ensures .0) (lengths .be16 .ensures .0)
-    (c .before .before .before .if3 .left) (c .before .before .be162 .ensures .0) (c .before .be163 .ensures .0) (c .byte2 .ensures .0)
+    (record-whole _ _ _ _ (lengths .before .before .before .if1 .left) (lengths .before .before .if2 .left) _ _ (lengths .before .byte .ensures .0) (lengths .be16 .ensures .0)
+    (c .before .before .before .if3 .left) (c .before .before .be162 .ensures .0) (c .before .be163 .ensures .0) (c .byte2 .ensures .0),
+      (c .byte2 .ensures .1, omega arith, omega arith))
 
 pub record-in-spec : {M : Type 1} → statement M
 record-in-spec =
