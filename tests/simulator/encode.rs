@@ -1,5 +1,6 @@
-//! Fields written: the other direction of `fields`, `pack` and `faults`.
+//! Fields and CCWs written: the other direction of `fields`, `pack`, `faults` and `channel`.
 
+use super::channel::CCW_LENGTH;
 use super::faults::{Fault, FAULT};
 use super::pack::{TrackAddress, HOME_ADDRESS, RECORD};
 
@@ -43,6 +44,13 @@ pub fn fault(fault: Fault) -> [u8; 10] {
     let [e0, e1] = fault.error_displacement.to_be_bytes();
     let [p0, p1, p2] = fault.pattern;
     [c0, c1, h0, h1, fault.number, e0, e1, p0, p1, p2]
+}
+
+/// An address of up to 24 bits.
+pub fn ccw(command: u8, address: usize, flags: u8, count: u16) -> [u8; CCW_LENGTH] {
+    let [_, a0, a1, a2] = (address as u32).to_be_bytes();
+    let [c0, c1] = count.to_be_bytes();
+    [command, a0, a1, a2, flags, 0, c0, c1]
 }
 
 pub fn put_home_address(image: &mut Vec<u8>, track: TrackAddress) {

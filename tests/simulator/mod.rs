@@ -20,12 +20,15 @@ macro_rules! rules {
 }
 
 pub mod areas;
+pub mod channel;
+pub mod drive;
 pub mod encode;
 pub mod extent;
 pub mod faults;
 pub mod fields;
 pub mod large;
 pub mod pack;
+pub mod run;
 pub mod sample;
 
 use areas::Area;

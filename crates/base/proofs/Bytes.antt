@@ -2,13 +2,14 @@
 --   length-part, getD-part, be16-part   a part's length and what stands in it
 --   part-part                           a part of a part
 --   be16-drop, part-drop                the same of the bytes from a place on
+--   part-three                          a part of three bytes
 use Prim.Native.Nat.{ℕ, zero, suc, _+_, _-_, _<_, _≤_}
 use native.Mathlib.Nat.{zero-add, suc-add}
 use native.Mathlib.Omega.{arith}
 use mathlib.Core.Path.{_≡_, refl, ap, sym, _∙_}
 use mathlib.Core.List.{List, [], _∷_}
 use lib.ListN.{length, getD, take, drop, length-take, length-drop}
-use lib.Seq.{getD-take, getD-drop, drop-drop, take-take, take-nil, drop-nil}
+use lib.Seq.{getD-take, getD-drop, drop-drop, take-take, take-nil, drop-cons}
 use Rattle.base.specs.Bytes.{be16At, part}
 
 drop-take : (a n : ℕ) (l : List ℕ) → drop a (take n l) ≡ take (n - a) (drop a l)
@@ -44,3 +45,16 @@ be16-drop at i s = let e : at + (i + 1) ≡ at + i + 1 = omega arith in rw (getD
 pub part-drop : (at i j : ℕ) (s : List ℕ) → part (drop at s) i j ≡ part s (at + i) (at + j)
 unfolding part
 part-drop at i j s = let n : at + j - (at + i) ≡ j - i = omega arith in rw (drop-drop i at s, n)
+
+-- one more byte in front, at i + 1
+drop-one : (s : List ℕ) (a : ℕ) → a < length s → drop a s ≡ getD s a 0 ∷ drop (a + 1) s
+drop-one s a h = let one : suc a ≡ a + 1 = omega arith in drop-cons s a 0 h ∙ ap (λ n. getD s a 0 ∷ drop n s) one
+
+pub part-three : (s : List ℕ) (a : ℕ) → a + 3 ≤ length s → part s a (a + 3) ≡ getD s a 0 ∷ getD s (a + 1) 0 ∷ getD s (a + 2) 0 ∷ []
+unfolding part
+part-three s a h =
+    let n : a + 3 - a ≡ 3 = omega arith in
+    let two : a + 1 + 1 ≡ a + 2 = omega arith in
+    let tail : drop (a + 1) s ≡ getD s (a + 1) 0 ∷ getD s (a + 2) 0 ∷ drop (a + 2 + 1) s =
+      drop-one s (a + 1) (omega arith) ∙ ap (λ l. getD s (a + 1) 0 ∷ l) (rw two (drop-one s (a + 2) (omega arith))) in
+    ap (λ l. take (a + 3 - a) l) (drop-one s a (omega arith) ∙ ap (λ l. getD s a 0 ∷ l) tail) ∙ rw n

@@ -1,4 +1,4 @@
-// Bytes as numbers, numbers of several bytes, and bits. Numbers are big-endian; bit 0 of a byte is its highest.
+// Bytes as numbers, numbers of several bytes, bits, and displacements. Numbers are big-endian; bit 0 of a byte is its highest.
 ghost use mathlib.Core.Path.{_≡_};
 ghost use Prim.Native.Nat.{_+_, _<_};
 ghost use lib.ListN.{length, getD};
@@ -47,3 +47,9 @@ pub fn bit(x: u8, k: u8) -> bool
 {
     (x >> (7 - k)) & 1 == 1
 }
+
+// A count of bytes from the front of a read.
+pub struct FromFront(pub usize);
+
+// A count of bytes back from the end of a data area.
+pub struct FromEnd(pub usize);

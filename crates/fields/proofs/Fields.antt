@@ -2,6 +2,7 @@
 --   fields-end    behind the last byte there is no field
 --   fields-torn   bytes that do not begin with a whole field are none
 --   fields-on     a field, and then the fields from the place behind it on
+-- and of `foldedAt` likewise: folded-end, folded-torn, folded-field
 use Prim.Native.Nat.{ℕ, zero, suc, _+_, _-_, _<_, _≤_}
 use native.Mathlib.Nat.{add-zero, add-suc}
 use native.Mathlib.Omega.{arith}
@@ -16,10 +17,10 @@ use lib.Seq.{getD-drop, drop-drop}
 use borrow.Author.Tests.{le-leb, lt-leb, leb-true, eq-eqb, ne-eqb, eqb-true, eqb-false}
 use Rattle.base.specs.Choice.{pick, opt}
 use Rattle.base.specs.Bytes.{be16At, part}
-use Rattle.base.proofs.Choice.{choose-if, split}
+use Rattle.base.proofs.Choice.{choose-if, split, found, opt-opt}
 use Rattle.base.proofs.Bytes.{be16-drop, part-drop}
 use Rattle.fields.specs.Fields as Spec
-use Rattle.fields.specs.Fields.{begins, front, behind, fieldsUpTo, fieldsAt}
+use Rattle.fields.specs.Fields.{begins, front, behind, fieldsUpTo, fieldsAt, folded, foldedAt}
 use Rattle.fields.specs.declared.Tagged.the-variants.{Field, Torn}
 use Rattle.fields.specs.TaggedAt.{taggedAt}
 use Rattle.fields.proofs.FieldAt.{Stands, tagged-tells, torn-tells}
@@ -124,3 +125,25 @@ fields-on l at {t} {st} {nx} e =
     let h : at < length l = omega (arith, w .start-is, w .next-is, w .inside) in
     onward (length l) (drop at l) (simp length-drop (omega arith)) (simp length-drop (omega arith)) (begins-at l at t st nx w)
     ∙ rw (front-at l at t st nx w, behind-at l at t st nx w)
+
+-- ---- what fields come to
+
+module _ {A : Type 0} (step : Spec.Field → A → Option A) (start : A) (s : List ℕ) (at : ℕ) where
+  pub folded-end : length s ≤ at → foldedAt step start s at ≡ some start
+  unfolding foldedAt folded opt
+  folded-end h = rw (fields-end s at h)
+
+  pub folded-torn : at < length s → taggedAt s at ≡ Torn → foldedAt step start s at ≡ none
+  unfolding foldedAt opt
+  folded-torn h e = rw (fields-torn s at h e)
+
+  pub folded-field : {t st nx : ℕ} → taggedAt s at ≡ Field t st nx
+      → foldedAt step start s at ≡ opt (foldedAt step start s nx) none (step (record { tag = t; contents = part s st nx }))
+  unfolding foldedAt folded opt
+  folded-field {t} {st} {nx} e =
+      let f : Spec.Field = record { tag = t; contents = part s st nx } in
+      rw (
+        fields-on s at e,
+        opt-opt (fieldsAt s nx) (λ fs. some (f ∷ fs)) none (folded step start),
+        opt-opt (fieldsAt s nx) (folded step start) none (step f),
+      )

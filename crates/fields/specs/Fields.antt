@@ -35,3 +35,12 @@ fieldsUpTo (suc n) l =
 -- the fields from a place in the bytes on
 unfoldable pub fieldsAt : List ℕ → ℕ → Option (List Field)
 fieldsAt l at = fieldsUpTo (length l) (drop at l)
+
+-- What fields come to, taken from the last to the first: `start` for none, and `step` puts a field in front of what those behind it came to.
+unfoldable pub folded : {A : Type 0} → (Field → A → Option A) → A → List Field → Option A
+folded step start [] = some start
+folded step start (f ∷ fs) = opt (folded step start fs) none (step f)
+
+-- the same of the fields from a place in the bytes on
+unfoldable pub foldedAt : {A : Type 0} → (Field → A → Option A) → A → List ℕ → ℕ → Option A
+foldedAt step start s at = opt (fieldsAt s at) none (folded step start)

@@ -24,7 +24,7 @@ use Rattle.pack.proofs.Decode.{decode-end, decode-home, decode-record, decode-n
 use Rattle.pack.proofs.Lookup.{next-record, no-record}
 use Rattle.image.specs.declared.Previous.{Previous}
 use Rattle.image.specs.declared.Previous.the-variants.{Nothing, Behind}
-use Rattle.image.specs.Image.{soundRecord, member, zeroFirst, soundRecords, soundTrack, follows, soundTracks, noRecords, wellFormedFrom}
+use Rattle.image.specs.Image.{soundRecord, member, zeroFirst, soundRecords, soundTrack, follows, soundTracks, noRecords, wellFormedFrom, wellFormed}
 use Rattle.image.specs.Pass.{fitsIn, soundInside}
 
 sound-record : (s : List ℕ) (at : ℕ) (a : Address) (p : Place) → Lies s at p → soundRecord a (recordFrom s p) ≡ fitsIn a p
@@ -121,3 +121,12 @@ module _ (last : ℕ) (b : Previous) (s : List ℕ) (at : ℕ) where
 pub all-sound : (last : ℕ) (b : Previous) (s : List ℕ) (at : ℕ) → length s ≤ at → wellFormedFrom last b s at ≡ true
 unfolding wellFormedFrom opt noRecords soundTracks
 all-sound last b s at h = rw (decode-end s at h)
+
+-- a well formed image decodes
+pub decodes : (last : ℕ) (s : List ℕ) → wellFormed last s ≡ true → (d : Decoded) × (decodeAt s 0 ≡ some d)
+unfolding wellFormed wellFormedFrom opt
+decodes last s h = by (decodeAt s 0) refl
+  where
+    by : (o : Option Decoded) → decodeAt s 0 ≡ o → (d : Decoded) × (decodeAt s 0 ≡ some d)
+    by none q = let w : false ≡ true = rw q at h in let z : _≡_ {A = ℕ} 0 1 = cc in absurd (omega arith)
+    by (some d) q = (d, q)

@@ -16,14 +16,12 @@ use lib.ListN.{length, getD}
 use borrow.Author.Tests.{eq-eqb, ne-eqb, eqb-true, eqb-false, leb-true}
 use Rattle.base.specs.Choice.{pick, opt}
 use Rattle.base.specs.Bytes.{be16At, part}
-use Rattle.base.proofs.Choice.{split, found, opt-opt, opt-const, and-left, and-right}
+use Rattle.base.proofs.Choice.{split, found, opt-const, and-left, and-right}
 use Rattle.base.proofs.Bytes.{length-part, getD-part, be16-part, part-part}
-use Rattle.fields.specs.Fields as Fields
-use Rattle.fields.specs.Fields.{fieldsAt}
 use Rattle.fields.specs.declared.Tagged.{Tagged}
 use Rattle.fields.specs.declared.Tagged.the-variants.{Field, Torn}
 use Rattle.fields.specs.TaggedAt.{taggedAt}
-use Rattle.fields.proofs.Fields.{fields-end, fields-torn, fields-on}
+use Rattle.fields.proofs.Fields.{folded-end, folded-torn, folded-field}
 use Rattle.fields.proofs.FieldAt.{bounds}
 use Rattle.address.specs.declared.Address.{Address}
 use Rattle.pack.specs.declared.HomeAt.{HomeAt}
@@ -31,7 +29,7 @@ use Rattle.pack.specs.declared.HomeAt.the-variants.{Home, NoHome}
 use Rattle.pack.specs.declared.Place.{Place}
 use Rattle.pack.specs.declared.RecordAt.{RecordAt}
 use Rattle.pack.specs.declared.RecordAt.the-variants.{Located, NoRecord}
-use Rattle.pack.specs.Pack.{Record, recordOf, homeOf, Decoded, ledByRecord, ledByHome, ledBy, nothing, decode, decodeAt}
+use Rattle.pack.specs.Pack.{Record, recordOf, homeOf, Decoded, ledByRecord, ledByHome, ledBy, nothing, decodeAt}
 use Rattle.pack.specs.Places.{onHome, onRecord, isHome, homeIn, homeAt, isRecord, placed, placeIn, recordAt, recordFrom}
 
 -- ---- contents that are a part of the bytes
@@ -98,32 +96,22 @@ module _ (s : List ℕ) (st nx : ℕ) (h : st ≤ nx) (g : nx ≤ length s) wher
 -- ---- by places
 
 pub decode-end : (s : List ℕ) (at : ℕ) → length s ≤ at → decodeAt s at ≡ some nothing
-unfolding decodeAt decode opt
-decode-end s at h = rw (fields-end s at h)
+unfolding decodeAt
+decode-end s at h = folded-end ledBy nothing s at h
 
 pub decode-torn : (s : List ℕ) (at : ℕ) → at < length s → taggedAt s at ≡ Torn → decodeAt s at ≡ none
-unfolding decodeAt opt
-decode-torn s at h e = rw (fields-torn s at h e)
+unfolding decodeAt
+decode-torn s at h e = folded-torn ledBy nothing s at h e
 
 -- what the field at a place makes of what is decoded behind it
 unfoldable pub led-by : List ℕ → ℕ → ℕ → ℕ → Decoded → Option Decoded
 led-by s t st nx d = onHome (homeIn s t st nx) (onRecord (placeIn s t st nx) none (λ p. some (ledByRecord (recordFrom s p) d))) (λ a _. some (ledByHome a d))
 
-consed : (s : List ℕ) (t st nx : ℕ) → st ≤ nx → nx ≤ length s → (fs : List Fields.Field)
-    → opt (some (record { tag = t; contents = part s st nx } ∷ fs)) none decode ≡ opt (decode fs) none (led-by s t st nx)
-unfolding opt decode led-by
-consed s t st nx h g fs = found (decode fs) refl (led s st nx h g t)
-
 pub decode-field : (s : List ℕ) (at : ℕ) {t st nx : ℕ} → taggedAt s at ≡ Field t st nx → decodeAt s at ≡ opt (decodeAt s nx) none (led-by s t st nx)
-unfolding decodeAt
+unfolding decodeAt led-by
 decode-field s at {t} {st} {nx} e =
     let b = bounds s at e in
-    rw (
-      fields-on s at e,
-      opt-opt (fieldsAt s nx) (λ fs. some (record { tag = t; contents = part s st nx } ∷ fs)) none decode,
-      opt-opt (fieldsAt s nx) decode none (led-by s t st nx),
-    )
-    (found (fieldsAt s nx) refl (consed s t st nx (b .1) (b .2)))
+    folded-field ledBy nothing s at e ∙ found (decodeAt s nx) refl (led s st nx (b .1) (b .2) t)
 
 -- what is found at a place comes from the field there
 home-from : (s : List ℕ) (at : ℕ) (a : Address) (n : ℕ) → homeAt s at ≡ Home a n

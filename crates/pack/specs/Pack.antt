@@ -8,7 +8,7 @@ use lib.Dec.{eqb, leb}
 use lib.ListN.{length, getD}
 use Rattle.base.specs.Choice.{pick, opt}
 use Rattle.base.specs.Bytes.{be16At, part}
-use Rattle.fields.specs.Fields.{Field, fieldsAt}
+use Rattle.fields.specs.Fields.{Field, foldedAt}
 use Rattle.address.specs.declared.Address.{Address}
 use Rattle.address.specs.Order.{same}
 
@@ -66,14 +66,9 @@ ledBy f d =
 abbrev pub nothing : Decoded
 nothing = record { records = []; tracks = [] }
 
--- the fields from the last to the first; none where one is neither a home address nor a record
-unfoldable pub decode : List Field → Option Decoded
-decode [] = some nothing
-decode (f ∷ fs) = opt (decode fs) none (ledBy f)
-
--- what the bytes from a place on decode to
+-- what the bytes from a place on decode to; none where a field is neither a home address nor a record
 unfoldable pub decodeAt : List ℕ → ℕ → Option Decoded
-decodeAt s at = opt (fieldsAt s at) none decode
+decodeAt s at = foldedAt ledBy nothing s at
 
 -- the pack of an image: its tracks; no tracks where the bytes do not decode
 unfoldable pub packOf : List ℕ → List Track

@@ -1,12 +1,12 @@
 -- Home addresses and records by their places in the bytes of an image: what the code that looks them up answers.
 -- The laws in proofs/Decode tie them to the decoded pack.
-use Prim.Native.Nat.{ℕ, _+_, _-_, _<_}
+use Prim.Native.Nat.{ℕ, _+_, _-_, _<_, _≤_}
 use mathlib.Core.Path.{_≡_}
 use mathlib.Core.Bool.{Bool, false, _&&_}
 use mathlib.Core.Option.{none, some}
 use mathlib.Core.List.{List}
 use lib.Dec.{eqb, leb}
-use lib.ListN.{getD}
+use lib.ListN.{length, getD}
 use Rattle.base.specs.Choice.{pick}
 use Rattle.base.specs.Bytes.{be16At, part}
 use Rattle.fields.specs.TaggedAt.{taggedAt, onTagged}
@@ -69,10 +69,18 @@ placeIn s tag st nx = pick (eqb tag 2 && isRecord s st nx) (Located (placed s st
 unfoldable pub recordAt : List ℕ → ℕ → RecordAt
 recordAt s at = onTagged (taggedAt s at) NoRecord (placeIn s)
 
--- the bounds of what stands in bytes: R and the key's length in one, the data's length in two
-abbrev pub InBytes : RecordAt → Type 0
-InBytes NoRecord = Unit {0}
-InBytes (Located p) = (p .r < 256) × (p .body < p .key + 256) × (p .next < p .body + 65536)
+-- Where a record lies, and what its bytes can hold: R and the key's length are in one byte, the data's length in two.
+pub record Within (s : List ℕ) (p : Place) : Type 0 where
+  pub number : p .r < 256
+  pub key-first : p .key ≤ p .body
+  pub key-short : p .body < p .key + 256
+  pub body-first : p .body ≤ p .next
+  pub body-short : p .next < p .body + 65536
+  pub inside : p .next ≤ length s
+
+abbrev pub Bounded : List ℕ → RecordAt → Type 0
+Bounded s NoRecord = Unit {0}
+Bounded s (Located p) = Within s p
 
 -- the record at a place, with the bytes of its key and data
 unfoldable pub recordFrom : List ℕ → Place → Record

@@ -4,7 +4,7 @@ use fields::Tagged;
 ghost use mathlib.Core.Path.{_≡_};
 ghost use Prim.Native.Nat.{_<_, _≤_};
 ghost use lib.ListN.{length};
-ghost use Rattle.pack.specs.Places.{homeIn, homeAt, isTrack, placeIn, recordAt, InBytes, TrackFound, RecordFound};
+ghost use Rattle.pack.specs.Places.{homeIn, homeAt, isTrack, placeIn, recordAt, Bounded, TrackFound, RecordFound};
 
 // What stands at a place: a home address, with the place behind its field, or none.
 pub enum HomeAt {
@@ -102,7 +102,7 @@ fn record_in(image: &[u8], tag: u8, start: usize, next: usize) -> RecordAt
     requires { ⌜ start ≤ next ⌝ }
     requires { ⌜ next ≤ length (now image) ⌝ }
     ensures { λ r. ⌜ r ≡ placeIn (now (image .entry)) tag start next ⌝ }
-    ensures { λ r. ⌜ InBytes r ⌝ }
+    ensures { λ r. ⌜ Bounded (now (image .entry)) r ⌝ }
 {
     if tag != 2 {
         return RecordAt::NoRecord;
@@ -129,7 +129,7 @@ fn record_in(image: &[u8], tag: u8, start: usize, next: usize) -> RecordAt
 
 pub fn record_at(image: &[u8], at: usize) -> RecordAt
     ensures { λ r. ⌜ r ≡ recordAt (now (image .entry)) at ⌝ }
-    ensures { λ r. ⌜ InBytes r ⌝ }
+    ensures { λ r. ⌜ Bounded (now (image .entry)) r ⌝ }
 {
     let Tagged::Field { tag, start, next } = fields::field_at(image, at) else {
         return RecordAt::NoRecord;
@@ -140,6 +140,7 @@ pub fn record_at(image: &[u8], at: usize) -> RecordAt
 // The first record with a number, from a place on and before the next home address.
 pub fn find_record(image: &[u8], at: usize, r: usize) -> RecordAt
     ensures { λ found. ⌜ RecordFound (now (image .entry)) at r found ⌝ }
+    ensures { λ found. ⌜ Bounded (now (image .entry)) found ⌝ }
 {
     let mut here = at;
     loop {

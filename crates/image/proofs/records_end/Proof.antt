@@ -70,7 +70,7 @@ returns-3 c =
     let i = call .before .loop .inv in
     let b = rw (found .p .given .1) at (call .record-at .ensures .1) in
     λ last. i .2 last ∙ inside-again last _ _ _ _ _ (sym (call .record-at .ensures .0) ∙ found .p .given .1) (sym (fit .before .fits2 .ensures) ∙ not-false _ (fit .if1 .left))
-    (marked (call .before .loop .seen) (i .0) (i .1) _ (b .0) (c .if2 .taken))
+    (marked (call .before .loop .seen) (i .0) (i .1) _ (b .number) (c .if2 .taken))
 
 array-write-seen : tie.Need-array-write-seen Inv-loop μ-loop
 array-write-seen c =
@@ -95,7 +95,7 @@ loop-again c =
     let b = rw (found .p .given .1) at (call .record-at .ensures .1) in (
       found .p .given .0 .0 .r ∷ i .0,
       marks-more (call .before .loop .seen) (i .0) (found .p .given .0 .0 .r) (omega arith) (i .1),
-      λ last. i .2 last ∙ inside-on last _ _ _ _ _ e (sym (fit .before .fits2 .ensures) ∙ not-false _ (fit .if1 .left)) (unmarked (call .before .loop .seen) (i .0) (i .1) _ (b .0) (c .if2 .left)),
+      λ last. i .2 last ∙ inside-on last _ _ _ _ _ e (sym (fit .before .fits2 .ensures) ∙ not-false _ (fit .if1 .left)) (unmarked (call .before .loop .seen) (i .0) (i .1) _ (b .number) (c .if2 .left)),
       simp length-set (i .3),
       omega (arith, l .behind, l .in-order),
       l .inside,

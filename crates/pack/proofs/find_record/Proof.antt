@@ -33,18 +33,18 @@ enum-told c = search needs
 
 returns : tie.Need-returns Inv-loop μ-loop
 returns c =
-    λ d h.
     let call = c .before .before in
-    let i = call .before .loop .inv d h in
-    i .2 ∙ record-none _ _ (i .0) (i .1) (sym (call .record-at .ensures .0) ∙ c .enum-told .given .1) _
+    let e = sym (call .record-at .ensures .0) ∙ c .enum-told .given .1 in
+    (λ d h. let i = call .before .loop .inv d h in i .2 ∙ record-none _ _ (i .0) (i .1) e _, tt)
 
 returns-2 : tie.Need-returns-2 Inv-loop μ-loop
 returns-2 c =
-    λ d h.
     let found = c .before .before .before in
     let call = found .before .before in
-    let i = call .before .loop .inv d h in
-    i .2 ∙ record-here _ _ (i .0) (i .1) _ (sym (call .record-at .ensures .0) ∙ found .p .given .1) _ (c .if1 .taken)
+    let e = sym (call .record-at .ensures .0) ∙ found .p .given .1 in (
+      λ d h. let i = call .before .loop .inv d h in i .2 ∙ record-here _ _ (i .0) (i .1) _ e _ (c .if1 .taken),
+      rw (found .p .given .1) at (call .record-at .ensures .1),
+    )
 
 loop-less : tie.Need-loop-less Inv-loop μ-loop
 loop-less c =

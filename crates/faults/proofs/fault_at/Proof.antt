@@ -1,0 +1,33 @@
+-- `faults::fault_at` meets its contract: what stands at the place is what the field there is. Assumes nothing.
+use native.Mathlib.Omega.{arith}
+use mathlib.Core.Path.{_≡_, refl, ap, sym, _∙_}
+use Rattle.fields.proofs.FieldAt.{bounds}
+use Rattle.faults.proofs.Answers.{fault-torn, fault-field}
+use borrow.Author.Needs.{needs}
+use Rattle.faults.proofs.fault_at.Statement.{statement}
+use Rattle.faults.proofs.fault_at.Tie as tie
+
+field-at-requires : tie.Need-field-at-requires
+field-at-requires c κs = search needs
+
+enum-known-tag : tie.Need-enum-known-tag
+enum-known-tag c = search needs
+
+enum-told : tie.Need-enum-told
+enum-told c = search needs
+
+returns : tie.Need-returns
+returns c = fault-torn _ _ (sym (c .enum-told .given .1) ∙ c .before .before .field-at .ensures)
+
+fault-in-requires : tie.Need-fault-in-requires
+fault-in-requires c κs =
+    let b = bounds _ _ (sym (c .before .before .before .field-at .ensures) ∙ c .before .tag .given .1) in
+    (b .1, b .2)
+
+returns-2 : tie.Need-returns-2
+returns-2 c = fault-field _ _ (sym (c .before .before .before .before .field-at .ensures) ∙ c .before .before .tag .given .1) (c .fault-in .ensures)
+
+pub fault-at-spec : {M : Type 1} → statement M
+fault-at-spec =
+    tie.close
+    (tie.spec field-at-requires enum-known-tag enum-told returns fault-in-requires returns-2)

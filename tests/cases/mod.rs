@@ -1,0 +1,110 @@
+//! Runs written by hand: what is lent and what must come out. `reader` says how they are written.
+//!
+//! Nothing here knows what is run; a `Runner` does that.
+
+pub mod reader;
+
+use std::fmt::Debug;
+
+/// The areas and the limit of a run.
+#[derive(Clone, Debug, PartialEq, Eq)]
+pub struct Lent {
+    pub chain: Vec<u8>,
+    pub arguments: Vec<u8>,
+    pub storage: Vec<u8>,
+    pub image: Vec<u8>,
+    pub faults: Vec<u8>,
+    /// The chain's; a restarted run has its own.
+    pub limit: usize,
+    pub restart: Option<Restart>,
+}
+
+/// The areas that a restarted run has besides.
+#[derive(Clone, Debug, Default, PartialEq, Eq)]
+pub struct Restart {
+    pub program: Vec<u8>,
+    pub arguments: Vec<u8>,
+}
+
+#[derive(Clone, Copy, Debug, PartialEq, Eq)]
+pub enum Ending {
+    End,
+    Limit,
+}
+
+#[derive(Clone, Debug, PartialEq, Eq)]
+pub enum Answer {
+    /// The question's number.
+    Refused(u8),
+    Ran(Ran),
+}
+
+/// What comes out of a run besides storage.
+#[derive(Clone, Debug, PartialEq, Eq)]
+pub struct Ran {
+    pub ending: Ending,
+    pub csw: [u8; 8],
+    pub sense: [u8; 24],
+    pub mask: Option<u8>,
+    /// Address of the first CCW of the read that a faulted data area cut.
+    pub cut: Option<usize>,
+    /// The data areas taken, each as `taken_area` writes it; none where this is not known.
+    pub taken: Option<Vec<String>>,
+}
+
+/// A data area that a read took, and how many of its bytes went to storage.
+pub fn taken_area(cylinder: u16, head: u16, number: u8, faulted: bool, stored: usize) -> String {
+    let state = if faulted { "faulted" } else { "good" };
+    format!("{cylinder:03} {head:02} {number:03} {state} {stored}")
+}
+
+/// Runs what is lent and leaves it as the run does.
+pub type Runner = fn(&mut Lent) -> Answer;
+
+#[derive(Clone, Debug)]
+pub struct Case {
+    pub name: String,
+    pub lent: Lent,
+    pub answer: Answer,
+    pub storage_after: Vec<u8>,
+}
+
+impl Case {
+    /// What comes out otherwise than the case says, a line each.
+    pub fn differences(&self, run: Runner) -> Vec<String> {
+        let mut lent = self.lent.clone();
+        let answer = run(&mut lent);
+        let mut differences = match (&self.answer, &answer) {
+            (Answer::Ran(expected), Answer::Ran(shown)) => compare(expected, shown),
+            (expected, shown) => different("answer", expected, shown).into_iter().collect(),
+        };
+        let storage = std::mem::replace(&mut lent.storage, self.lent.storage.clone());
+        differences.extend(different("storage", &self.storage_after, &storage));
+        if lent != self.lent {
+            differences.push("an area that is only read was written".to_string());
+        }
+        differences
+    }
+}
+
+fn compare(expected: &Ran, shown: &Ran) -> Vec<String> {
+    let taken = match (&expected.taken, &shown.taken) {
+        (Some(expected), Some(shown)) => different("taken", expected, shown),
+        _ => None,
+    };
+    [
+        different("ending", &expected.ending, &shown.ending),
+        different("CSW", &expected.csw, &shown.csw),
+        different("sense", &expected.sense, &shown.sense),
+        different("mask", &expected.mask, &shown.mask),
+        different("cut", &expected.cut, &shown.cut),
+        taken,
+    ]
+    .into_iter()
+    .flatten()
+    .collect()
+}
+
+fn different<T: Debug + PartialEq>(what: &str, expected: &T, shown: &T) -> Option<String> {
+    (expected != shown).then(|| format!("{what}: expected {expected:02X?}, came {shown:02X?}"))
+}

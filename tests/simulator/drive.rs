@@ -1,0 +1,403 @@
+//! The drive: one command at one place of one track, sense.
+
+use super::encode;
+use super::faults::{Fault, FaultList};
+use super::pack::{Pack, Record, TrackAddress};
+use std::borrow::Cow;
+
+pub const NO_OPERATION: u8 = 0x03;
+pub const SEEK: u8 = 0x07;
+pub const SET_FILE_MASK: u8 = 0x1F;
+pub const SET_SECTOR: u8 = 0x23;
+pub const SEARCH_ID_EQUAL: u8 = 0x31;
+pub const READ_DATA: u8 = 0x06;
+pub const READ_KEY_DATA: u8 = 0x0E;
+pub const READ_COUNT: u8 = 0x12;
+pub const READ_COUNT_KEY_DATA: u8 = 0x1E;
+pub const READ_HOME_ADDRESS: u8 = 0x1A;
+
+/// Bits 3 and 4.
+pub const MASK_SEEK_INHIBITED: u8 = 0x18;
+/// Bits 2, 5 and 6.
+pub const MASK_REJECTED: u8 = 0x26;
+
+pub const LAST_SECTOR: u8 = 127;
+pub const NO_SECTOR: u8 = 255;
+
+/// What the CCW of a command names.
+#[derive(Clone, Copy, Debug, PartialEq, Eq)]
+pub enum Operand {
+    Nothing,
+    Argument,
+    Storage,
+}
+
+impl Operand {
+    pub fn of(command: u8) -> Operand {
+        match command {
+            SEEK | SET_FILE_MASK | SET_SECTOR | SEARCH_ID_EQUAL => Operand::Argument,
+            READ_DATA | READ_KEY_DATA | READ_COUNT | READ_COUNT_KEY_DATA | READ_HOME_ADDRESS => {
+                Operand::Storage
+            }
+            _ => Operand::Nothing,
+        }
+    }
+}
+
+rules! {
+    RejectRule {
+        OtherCommand,
+        WrongCount,
+        ChainedData,
+        SecondMask,
+        MaskBits,
+        Sector,
+        SeekOffThePack,
+        SeekNotZero,
+    }
+}
+
+rules! {
+    NotFoundRule {
+        TrackNotInImage,
+        IndexPassedTwice,
+        R0Alone,
+    }
+}
+
+/// The unit checks found before anything moves.
+#[derive(Clone, Copy, Debug, PartialEq, Eq, PartialOrd, Ord)]
+pub enum UnitCheck {
+    Reject(RejectRule),
+    FileProtected,
+    NoRecordFound(NotFoundRule),
+}
+
+pub type Sense = [u8; 24];
+
+impl UnitCheck {
+    pub fn sense(self) -> Sense {
+        let mut sense = [0; 24];
+        match self {
+            UnitCheck::Reject(_) => sense[0] = 0x80,
+            UnitCheck::NoRecordFound(_) => sense[1] = 0x08,
+            UnitCheck::FileProtected => sense[1] = 0x04,
+        }
+        sense
+    }
+}
+
+/// Sense of a faulted data area. The restart displacement is the length of the whole read;
+/// `bytes_left_over` tells whether the count ran out before its end.
+pub fn data_check_sense(
+    fault: &Fault,
+    restart_displacement: usize,
+    bytes_left_over: bool,
+) -> Sense {
+    let mut sense = [0; 24];
+    sense[0] = 0x08;
+    sense[2] = 0x40;
+    sense[7] = 0x53;
+    sense[8..12].copy_from_slice(&encode::track_address(fault.track));
+    sense[12] = fault.number;
+    sense[15..18].copy_from_slice(&(restart_displacement as u32).to_be_bytes()[1..]);
+    sense[18..20].copy_from_slice(&fault.error_displacement.to_be_bytes());
+    sense[20..23].copy_from_slice(&fault.pattern);
+    sense[23] = bytes_left_over.into();
+    sense
+}
+
+/// The data area of a record that a read takes.
+#[derive(Clone, Copy, Debug)]
+pub struct DataArea<'d> {
+    pub track: TrackAddress,
+    pub number: u8,
+    pub fault: Option<&'d Fault>,
+}
+
+/// What a read takes, in the order and as it arrives.
+#[derive(Debug)]
+pub struct Arriving<'d> {
+    /// Count area or home address.
+    front: Cow<'d, [u8]>,
+    key: &'d [u8],
+    data: Cow<'d, [u8]>,
+    /// None in 12 and 1A.
+    pub data_area: Option<DataArea<'d>>,
+}
+
+impl<'d> Arriving<'d> {
+    fn nothing() -> Arriving<'d> {
+        Arriving {
+            front: Cow::Borrowed(&[]),
+            key: &[],
+            data: Cow::Borrowed(&[]),
+            data_area: None,
+        }
+    }
+
+    pub fn length(&self) -> usize {
+        self.data_start() + self.data.len()
+    }
+
+    /// Place of the first data byte, from the front of the read.
+    pub fn data_start(&self) -> usize {
+        self.front.len() + self.key.len()
+    }
+
+    /// Whether a data area was taken that has no bytes.
+    pub fn is_unit_exception(&self) -> bool {
+        self.data_area.is_some() && self.data.is_empty()
+    }
+
+    /// Copies from `from` on, counted from the front of the read, until `out` is full.
+    pub fn copy_to(&self, mut from: usize, mut out: &mut [u8]) {
+        for part in [&*self.front, self.key, &*self.data] {
+            let Some(part) = part.get(from..) else {
+                from -= part.len();
+                continue;
+            };
+            let (filled, rest) = out.split_at_mut(part.len().min(out.len()));
+            filled.copy_from_slice(&part[..filled.len()]);
+            out = rest;
+            from = 0;
+        }
+    }
+}
+
+/// Pattern byte i belongs to data length minus displacement plus i, where that is inside.
+fn arrived(data: &[u8], fault: &Fault) -> Vec<u8> {
+    let mut arrived = data.to_vec();
+    let first = data.len() - usize::from(fault.error_displacement);
+    for (byte, pattern) in arrived[first..].iter_mut().zip(fault.pattern) {
+        *byte ^= pattern;
+    }
+    arrived
+}
+
+/// What a command did.
+pub enum Done<'d> {
+    Control,
+    Search { equal: bool },
+    Read(Arriving<'d>),
+}
+
+pub struct Drive<'a> {
+    pack: &'a Pack<'a>,
+    faults: &'a FaultList,
+    last_cylinder: u16,
+    track: TrackAddress,
+    /// Of the track, R0 first; none where it is not in the image.
+    records: Option<&'a [Record<'a>]>,
+    /// Place on the track of the record that the last search or read was at; none at the index.
+    place: Option<usize>,
+    /// Whether the count area at `place` is what the last command passed.
+    just_passed: bool,
+    /// By searches, since the last control, read or equal search.
+    index_passes: u8,
+    mask: Option<u8>,
+}
+
+impl<'a> Drive<'a> {
+    pub fn new(pack: &'a Pack<'a>, faults: &'a FaultList, last_cylinder: u16) -> Drive<'a> {
+        let track = TrackAddress {
+            cylinder: 0,
+            head: 0,
+        };
+        Drive {
+            pack,
+            faults,
+            last_cylinder,
+            track,
+            records: pack.track(track),
+            place: None,
+            just_passed: false,
+            index_passes: 0,
+            mask: None,
+        }
+    }
+
+    /// None where no mask was set.
+    pub fn mask(&self) -> Option<u8> {
+        self.mask
+    }
+
+    /// Carries out a command. The argument is as long as the CCW's count, and empty in a read.
+    pub fn execute(
+        &mut self,
+        command: u8,
+        argument: &[u8],
+        chained_data: bool,
+    ) -> Result<Done<'a>, UnitCheck> {
+        check_form(command, argument, chained_data).map_err(UnitCheck::Reject)?;
+        match command {
+            SEARCH_ID_EQUAL => self.search(argument).map(|equal| Done::Search { equal }),
+            READ_HOME_ADDRESS => self.read_home_address().map(Done::Read),
+            READ_COUNT => self.read_count().map(Done::Read),
+            READ_DATA | READ_KEY_DATA | READ_COUNT_KEY_DATA => {
+                self.read_data(command).map(Done::Read)
+            }
+            _ => self.control(command, argument).map(|()| Done::Control),
+        }
+    }
+
+    fn control(&mut self, command: u8, argument: &[u8]) -> Result<(), UnitCheck> {
+        match command {
+            SEEK => self.seek(argument)?,
+            SET_FILE_MASK => self.set_file_mask(argument[0]).map_err(UnitCheck::Reject)?,
+            SET_SECTOR if (LAST_SECTOR + 1..NO_SECTOR).contains(&argument[0]) => {
+                return Err(UnitCheck::Reject(RejectRule::Sector));
+            }
+            _ => (),
+        }
+        self.to_index();
+        Ok(())
+    }
+
+    fn seek(&mut self, argument: &[u8]) -> Result<(), UnitCheck> {
+        let (zeros, address) = argument.split_at(2);
+        let track = TrackAddress::decode(address);
+        if !track.on_pack(self.last_cylinder) {
+            return Err(UnitCheck::Reject(RejectRule::SeekOffThePack));
+        }
+        if zeros != [0, 0] {
+            return Err(UnitCheck::Reject(RejectRule::SeekNotZero));
+        }
+        if self.mask.unwrap_or(0) & MASK_SEEK_INHIBITED != 0 {
+            return Err(UnitCheck::FileProtected);
+        }
+        self.track = track;
+        self.records = self.pack.track(track);
+        Ok(())
+    }
+
+    fn set_file_mask(&mut self, mask: u8) -> Result<(), RejectRule> {
+        if self.mask.is_some() {
+            return Err(RejectRule::SecondMask);
+        }
+        if mask & MASK_REJECTED != 0 {
+            return Err(RejectRule::MaskBits);
+        }
+        self.mask = Some(mask);
+        Ok(())
+    }
+
+    /// Whether the next count area has the ID asked for.
+    fn search(&mut self, id: &[u8]) -> Result<bool, UnitCheck> {
+        let records = self.records()?;
+        let mut place = self.place.map_or(0, |place| place + 1);
+        if place == records.len() {
+            place = 0;
+            self.index_passes += 1;
+            if self.index_passes == 2 {
+                return Err(UnitCheck::NoRecordFound(NotFoundRule::IndexPassedTwice));
+            }
+        }
+        let equal = records[place].count_area.starts_with(id);
+        if equal {
+            self.index_passes = 0;
+        }
+        self.place = Some(place);
+        self.just_passed = true;
+        Ok(equal)
+    }
+
+    fn read_home_address(&mut self) -> Result<Arriving<'a>, UnitCheck> {
+        self.records()?;
+        self.to_index();
+        Ok(Arriving {
+            front: Cow::Owned(encode::home_address(self.track).to_vec()),
+            ..Arriving::nothing()
+        })
+    }
+
+    fn read_count(&mut self) -> Result<Arriving<'a>, UnitCheck> {
+        let (place, record) = self.next_record()?;
+        self.read_at(place);
+        self.just_passed = true;
+        Ok(Arriving {
+            front: Cow::Borrowed(record.count_area),
+            ..Arriving::nothing()
+        })
+    }
+
+    fn read_data(&mut self, command: u8) -> Result<Arriving<'a>, UnitCheck> {
+        let (place, record) = match self.place {
+            Some(place) if self.just_passed && command != READ_COUNT_KEY_DATA => {
+                (place, &self.records()?[place])
+            }
+            _ => self.next_record()?,
+        };
+        self.read_at(place);
+        let mut arriving = Arriving::nothing();
+        if command == READ_COUNT_KEY_DATA {
+            arriving.front = Cow::Borrowed(record.count_area);
+        }
+        if command != READ_DATA {
+            arriving.key = record.key;
+        }
+        let fault = self.faults.of(self.track, record.number());
+        arriving.data = match fault {
+            Some(fault) => Cow::Owned(arrived(record.data, fault)),
+            None => Cow::Borrowed(record.data),
+        };
+        arriving.data_area = Some(DataArea {
+            track: self.track,
+            number: record.number(),
+            fault,
+        });
+        Ok(arriving)
+    }
+
+    /// The next record other than R0 and its place, round the track if need be.
+    fn next_record(&self) -> Result<(usize, &'a Record<'a>), UnitCheck> {
+        let records = self.records()?;
+        let behind = self.place.map_or(1, |place| place + 1);
+        let place = if behind < records.len() { behind } else { 1 };
+        let record = records.get(place);
+        record
+            .map(|record| (place, record))
+            .ok_or(UnitCheck::NoRecordFound(NotFoundRule::R0Alone))
+    }
+
+    fn records(&self) -> Result<&'a [Record<'a>], UnitCheck> {
+        self.records
+            .ok_or(UnitCheck::NoRecordFound(NotFoundRule::TrackNotInImage))
+    }
+
+    fn to_index(&mut self) {
+        self.place = None;
+        self.just_passed = false;
+        self.index_passes = 0;
+    }
+
+    /// Behind the record that a read took.
+    fn read_at(&mut self, place: usize) {
+        self.place = Some(place);
+        self.just_passed = false;
+        self.index_passes = 0;
+    }
+}
+
+/// What is rejected whatever the argument says.
+fn check_form(command: u8, argument: &[u8], chained_data: bool) -> Result<(), RejectRule> {
+    let right_count = match command {
+        NO_OPERATION => argument.len(),
+        SEEK => 6,
+        SET_FILE_MASK | SET_SECTOR => 1,
+        SEARCH_ID_EQUAL => 5,
+        _ => {
+            return match Operand::of(command) {
+                Operand::Storage => Ok(()),
+                _ => Err(RejectRule::OtherCommand),
+            }
+        }
+    };
+    if argument.len() != right_count {
+        return Err(RejectRule::WrongCount);
+    }
+    if chained_data {
+        return Err(RejectRule::ChainedData);
+    }
+    Ok(())
+}

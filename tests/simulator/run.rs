@@ -1,0 +1,258 @@
+//! A run: a chain over an image with a fault list, from its first CCW or from a restart program.
+
+use super::areas::{check_restart, check_run, RunSizes};
+use super::channel::{
+    Ccw, Channel, Program, ProgramCheck, Restart, Status, CCW_LENGTH, CHANNEL_INCORRECT_LENGTH,
+    FLAG_CHAIN_COMMAND, FLAG_CHAIN_DATA, UNIT_CHECK, UNIT_EXCEPTION,
+};
+use super::drive::{
+    data_check_sense, Arriving, Done, Drive, Operand, Sense, UnitCheck, NO_OPERATION,
+};
+use super::pack::TrackAddress;
+use super::{check_faults, Refusal};
+
+pub const RESTARTED_LIMIT: usize = 8_192;
+
+/// The areas that a run only reads.
+#[derive(Clone, Copy, Debug)]
+pub struct Lent<'a> {
+    pub chain: &'a [u8],
+    pub arguments: &'a [u8],
+    pub image: &'a [u8],
+    pub faults: &'a [u8],
+}
+
+impl<'a> Lent<'a> {
+    fn check(&self, storage: usize, limit: usize) -> Result<(), Refusal> {
+        check_run(RunSizes {
+            chain: self.chain.len(),
+            arguments: self.arguments.len(),
+            storage,
+            image: self.image.len(),
+            faults: self.faults.len(),
+            limit,
+        })
+    }
+
+    fn program(&self, restart: Option<Restart<'a>>) -> Program<'a> {
+        Program {
+            chain: self.chain,
+            arguments: self.arguments,
+            restart,
+        }
+    }
+}
+
+/// Why a run ended.
+#[derive(Clone, Copy, Debug, PartialEq, Eq, PartialOrd, Ord)]
+pub enum End {
+    /// The chain did not go on.
+    Chain,
+    IncorrectLength,
+    /// Data length 0, with incorrect length or without.
+    UnitException,
+    ProgramCheck(ProgramCheck),
+    UnitCheck(UnitCheck),
+    /// A faulted data area, with incorrect length or without.
+    Cut,
+    Limit,
+}
+
+/// A data area that a 06, 0E or 1E took.
+#[derive(Clone, Copy, Debug, PartialEq, Eq)]
+pub struct TakenArea {
+    pub track: TrackAddress,
+    /// The record number R.
+    pub number: u8,
+    /// Whether the fault list names it.
+    pub faulted: bool,
+    /// How many of its bytes went to storage.
+    pub stored: usize,
+}
+
+#[derive(Clone, Debug, PartialEq, Eq)]
+pub struct Outcome {
+    pub end: End,
+    pub csw: [u8; 8],
+    /// Zeros where no unit check ended the run.
+    pub sense: Sense,
+    /// None where no mask was set.
+    pub mask: Option<u8>,
+    /// Address of the first CCW of the read that a faulted data area cut.
+    pub cut: Option<usize>,
+    /// In the order in which they were taken.
+    pub taken: Vec<TakenArea>,
+}
+
+/// Questions 1, 2 and 3, then a run from the chain's first CCW. A refusal leaves storage.
+pub fn run(
+    lent: Lent,
+    storage: &mut [u8],
+    limit: usize,
+    last_cylinder: u16,
+) -> Result<Outcome, Refusal> {
+    lent.check(storage.len(), limit)?;
+    let (pack, faults) = check_faults(lent.image, lent.faults, last_cylinder)?;
+    let drive = Drive::new(&pack, &faults, last_cylinder);
+    Ok(run_drive(drive, lent.program(None), storage, limit))
+}
+
+/// The same from a restart program, with a restarted run's limit.
+pub fn run_restarted(
+    lent: Lent,
+    restart: Restart,
+    storage: &mut [u8],
+    last_cylinder: u16,
+) -> Result<Outcome, Refusal> {
+    // The chain's own limit is not lent here: 1 is as good as any.
+    lent.check(storage.len(), 1)?;
+    check_restart(restart.program.len(), restart.arguments.len())?;
+    let (pack, faults) = check_faults(lent.image, lent.faults, last_cylinder)?;
+    let drive = Drive::new(&pack, &faults, last_cylinder);
+    let program = lent.program(Some(restart));
+    Ok(run_drive(drive, program, storage, RESTARTED_LIMIT))
+}
+
+/// A run with nothing left to ask: the drive is new, the areas are as they must be.
+pub fn run_drive(drive: Drive, program: Program, storage: &mut [u8], limit: usize) -> Outcome {
+    Machine {
+        channel: Channel::new(program, storage.len()),
+        drive,
+        storage,
+        sense: [0; 24],
+        cut: None,
+        taken: Vec::new(),
+    }
+    .run(limit)
+}
+
+/// What a command leads to.
+enum Then {
+    /// The next CCW is at this address.
+    GoOn(usize),
+    End(End),
+}
+
+impl Then {
+    fn chained(current: &Ccw, next: usize) -> Then {
+        if current.has(FLAG_CHAIN_COMMAND) {
+            Then::GoOn(next)
+        } else {
+            Then::End(End::Chain)
+        }
+    }
+}
+
+struct Machine<'a> {
+    channel: Channel<'a>,
+    drive: Drive<'a>,
+    storage: &'a mut [u8],
+    sense: Sense,
+    cut: Option<usize>,
+    taken: Vec<TakenArea>,
+}
+
+impl Machine<'_> {
+    fn run(mut self, limit: usize) -> Outcome {
+        let mut fetched = self.channel.fetch_first();
+        let mut begun = 0;
+        loop {
+            let (status, then) =
+                fetched
+                    .and_then(|ccw| self.command(ccw))
+                    .unwrap_or_else(|check| {
+                        let end = End::ProgramCheck(check);
+                        (Status::PROGRAM_CHECK, Then::End(end))
+                    });
+            begun += 1;
+            match then {
+                Then::End(end) => return self.outcome(end, status),
+                Then::GoOn(_) if begun == limit => return self.outcome(End::Limit, status),
+                Then::GoOn(at) => fetched = self.channel.fetch(at),
+            }
+        }
+    }
+
+    fn outcome(self, end: End, status: Status) -> Outcome {
+        Outcome {
+            end,
+            csw: self.channel.csw(status),
+            sense: self.sense,
+            mask: self.drive.mask(),
+            cut: self.cut,
+            taken: self.taken,
+        }
+    }
+
+    fn command(&mut self, ccw: Ccw) -> Result<(Status, Then), ProgramCheck> {
+        let argument = match Operand::of(ccw.command) {
+            Operand::Nothing => &[],
+            Operand::Argument => self.channel.argument(&ccw)?,
+            Operand::Storage => {
+                self.channel.check_storage(&ccw)?;
+                &[]
+            }
+        };
+        let chained_data = ccw.has(FLAG_CHAIN_DATA);
+        match self.drive.execute(ccw.command, argument, chained_data) {
+            Ok(Done::Control) => {
+                let count_left = match ccw.command {
+                    NO_OPERATION => ccw.count,
+                    _ => 0,
+                };
+                let then = Then::chained(&ccw, ccw.behind());
+                Ok((Status::ended(count_left), then))
+            }
+            Ok(Done::Search { equal }) => {
+                let skipped = if equal { CCW_LENGTH } else { 0 };
+                let then = Then::chained(&ccw, ccw.behind() + skipped);
+                Ok((Status::ended(0), then))
+            }
+            Ok(Done::Read(arriving)) => self.read(ccw, arriving),
+            Err(check) => {
+                self.sense = check.sense();
+                let mut status = Status::ended(ccw.count);
+                status.unit |= UNIT_CHECK;
+                Ok((status, Then::End(End::UnitCheck(check))))
+            }
+        }
+    }
+
+    fn read(&mut self, first: Ccw, arriving: Arriving) -> Result<(Status, Then), ProgramCheck> {
+        let mut stored = 0;
+        let walked = self.channel.walk(first, arriving.length(), |stretch| {
+            if let Some(at) = stretch.storage {
+                arriving.copy_to(stretch.from, &mut self.storage[at..at + stretch.length]);
+                stored += stretch.length_from(arriving.data_start());
+            }
+        });
+        let fault = arriving.data_area.and_then(|area| area.fault);
+        if let Some(area) = arriving.data_area {
+            self.taken.push(TakenArea {
+                track: area.track,
+                number: area.number,
+                faulted: fault.is_some(),
+                stored,
+            });
+        }
+        let end = walked?;
+        let mut status = Status::ended(end.count_left);
+        if end.is_incorrect_length() {
+            status.channel |= CHANNEL_INCORRECT_LENGTH;
+        }
+        let then = if let Some(fault) = fault {
+            status.unit |= UNIT_CHECK;
+            self.sense = data_check_sense(fault, arriving.length(), end.bytes_left_over > 0);
+            self.cut = Some(first.at);
+            Then::End(End::Cut)
+        } else if arriving.is_unit_exception() {
+            status.unit |= UNIT_EXCEPTION;
+            Then::End(End::UnitException)
+        } else if end.is_incorrect_length() {
+            Then::End(End::IncorrectLength)
+        } else {
+            Then::chained(&end.ccw, end.ccw.behind())
+        };
+        Ok((status, then))
+    }
+}
