@@ -8,15 +8,6 @@
 
 use crate::simulator::areas::RunSizes;
 
-/// Where a record is looked for. The numbers may be more than a track address holds.
-#[derive(Clone, Copy)]
-pub struct Sought {
-    pub cylinder: usize,
-    pub head: usize,
-    /// Place on the track, R0 at 0; of a fault, R.
-    pub record: usize,
-}
-
 extern "C" {
     fn giruve_check_image(image: *const u8, image_len: usize) -> u8;
     fn giruve_check_faults(
@@ -35,24 +26,6 @@ extern "C" {
         limit: usize,
     ) -> u8;
     fn giruve_check_restart_areas(program_len: usize, arguments_len: usize) -> u8;
-    fn giruve_find_record(
-        image: *const u8,
-        image_len: usize,
-        cylinder: usize,
-        head: usize,
-        place: usize,
-        found: *mut u8,
-        found_len: usize,
-    ) -> u8;
-    fn giruve_find_fault(
-        faults: *const u8,
-        faults_len: usize,
-        cylinder: usize,
-        head: usize,
-        record: usize,
-        found: *mut u8,
-        found_len: usize,
-    ) -> u8;
 }
 
 // Every call below is given areas that are valid for the lengths beside them and do not overlap;
@@ -92,34 +65,4 @@ pub fn check_areas(sizes: RunSizes) -> u8 {
 
 pub fn check_restart_areas(program: usize, arguments: usize) -> u8 {
     unsafe { giruve_check_restart_areas(program, arguments) }
-}
-
-/// `image` is well formed.
-pub fn find_record(image: &mut [u8], sought: Sought, found: &mut [u8]) -> u8 {
-    unsafe {
-        giruve_find_record(
-            image.as_mut_ptr(),
-            image.len(),
-            sought.cylinder,
-            sought.head,
-            sought.record,
-            found.as_mut_ptr(),
-            found.len(),
-        )
-    }
-}
-
-/// `faults` is well formed.
-pub fn find_fault(faults: &mut [u8], sought: Sought, found: &mut [u8]) -> u8 {
-    unsafe {
-        giruve_find_fault(
-            faults.as_mut_ptr(),
-            faults.len(),
-            sought.cylinder,
-            sought.head,
-            sought.record,
-            found.as_mut_ptr(),
-            found.len(),
-        )
-    }
 }

@@ -1,13 +1,12 @@
 //! Images and fault lists as long as they may be, and longer. Few, since they take their time.
 
-use crate::compare::{Comparison, Disagreement, FOUND_RECORD};
+use crate::compare::{Comparison, Disagreement};
 use crate::generate::decoded;
 use crate::random::Random;
 use crate::simulator::encode;
 use crate::simulator::faults::{Fault, FAULT};
 use crate::simulator::large::{image_of, TracksOf};
 use crate::simulator::pack::Pack;
-use crate::sought::place_sought;
 
 const LONGEST_IMAGE: usize = 1_048_576;
 const LONGEST_LIST: usize = 65_536;
@@ -33,11 +32,6 @@ fn images(comparison: &mut Comparison, random: &mut Random) -> Result<(), Disagr
         let past = image_of(LONGEST_IMAGE + 1, tracks);
         comparison.image("of 1,048,577 bytes", &past)?;
         comparison.image("torn, of 1,048,576 bytes", &past[..LONGEST_IMAGE])?;
-        let pack = decoded(&full);
-        for _ in 0..4 {
-            let (kind, sought) = place_sought(random, &pack);
-            comparison.find_record(kind, &full, &pack, sought, FOUND_RECORD)?;
-        }
     }
     comparison.image("of 1,048,577 bytes", &vec![0; LONGEST_IMAGE + 1])?;
     comparison.image("random, of 1,048,576 bytes", &random.bytes(LONGEST_IMAGE))?;

@@ -13,16 +13,14 @@ mod library;
 mod limits;
 mod random;
 mod sizes;
-mod sought;
 mod tally;
 
-use compare::{Comparison, Disagreement, FOUND_FAULT, FOUND_RECORD};
+use compare::{Comparison, Disagreement};
 use generate::{decoded, written, SHAPES};
 use random::Random;
-use simulator::faults::{FaultList, FAULT};
+use simulator::faults::FAULT;
 use simulator::pack::{HOME_ADDRESS, RECORD};
 use simulator::sample;
-use sought::{fault_sought, found_length, place_sought};
 use std::process::ExitCode;
 
 const SEED: u64 = 33_300_001;
@@ -72,21 +70,8 @@ fn well_formed(
     let (shape, draft) = SHAPES[turn % SHAPES.len()];
     let image = written(&draft(random));
     comparison.image(shape, &image)?;
-    let pack = decoded(&image);
-    for _ in 0..4 {
-        let (kind, sought) = place_sought(random, &pack);
-        let found_len = found_length(random, FOUND_RECORD);
-        comparison.find_record(kind, &image, &pack, sought, found_len)?;
-    }
-    let list = written(&generate::faults(random, &pack));
-    comparison.faults(shape, &image, &list)?;
-    let faults = FaultList::decode(&list, &pack).expect("a generated list is well formed");
-    for _ in 0..2 {
-        let (kind, sought) = fault_sought(random, &pack, &faults);
-        let found_len = found_length(random, FOUND_FAULT);
-        comparison.find_fault(kind, &list, &faults, sought, found_len)?;
-    }
-    Ok(())
+    let list = written(&generate::faults(random, &decoded(&image)));
+    comparison.faults(shape, &image, &list)
 }
 
 fn damaged(

@@ -35,23 +35,13 @@ pub const CHECK_RESTART_AREAS: Call = Call {
     name: "giruve_check_restart_areas",
     answers: &[0, 1],
 };
-pub const FIND_RECORD: Call = Call {
-    name: "giruve_find_record",
-    answers: &[0, 1, 2, 3],
-};
-pub const FIND_FAULT: Call = Call {
-    name: "giruve_find_fault",
-    answers: &[0, 1, 3],
-};
 
-const CALLS: [Call; 7] = [
+const CALLS: [Call; 5] = [
     CHECK_IMAGE,
     CHECK_FAULTS,
     CHECK_EXTENT,
     CHECK_AREAS,
     CHECK_RESTART_AREAS,
-    FIND_RECORD,
-    FIND_FAULT,
 ];
 
 type Answers = BTreeMap<u8, u64>;

@@ -1,6 +1,6 @@
 -- A table of 256 marks against the list of numbers seen.
 --   Marks                    the entry of a number is 1 where it was seen, else 0
---   marks-none, marks-more   at first, and with one number more
+--   marks-zero, marks-more   with 0 alone, and with one number more
 --   marked, unmarked         what a mark tells
 use Prim.Native.Nat.{ℕ, _<_}
 use native.Mathlib.Omega.{arith}
@@ -18,7 +18,7 @@ use Rattle.image.specs.Image.{member}
 abbrev pub Marks : List ℕ → List ℕ → Type 0
 Marks marks seen = (k : ℕ) → k < 256 → getD marks k 0 ≡ pick (member k seen) 1 0
 
-pub marks-none : Marks (replicate 256 0) []
+marks-none : Marks (replicate 256 0) []
 unfolding member pick
 marks-none k h = getD-replicate 256 k 0 0 h
 
@@ -27,6 +27,9 @@ unfolding member pick
 marks-more marks seen r g m k h =
     split (eqb r k) (λ e. rw (← (eqb-true r k e), eq-eqb r r refl) (getD-set-same marks r 1 0 g))
     (λ e. rw e (getD-set-other marks r k 1 0 (λ q. eqb-false r k e (sym q)) ∙ m k h))
+
+pub marks-zero : Marks (set (replicate 256 0) 0 1) (0 ∷ [])
+marks-zero = marks-more (replicate 256 0) [] 0 (omega arith) marks-none
 
 module _ (marks seen : List ℕ) (m : Marks marks seen) (r : ℕ) (h : r < 256) where
   pub marked : getD marks r 0 ≡ 1 → member r seen ≡ true

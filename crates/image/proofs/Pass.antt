@@ -114,9 +114,17 @@ module _ (last : ℕ) (b : Previous) (s : List ℕ) (at : ℕ) where
           unfolding led soundTrack
           track-unzero z = track-led ∙ opt-const (decodeAt s n) (λ d h. rw (f, g, first-is d h, ne-eqb (p .r) 0 z))
 
-          pub track-zero : p .r ≡ 0 → wellFormedFrom last b s at ≡ soundInside last a [] s n
-          unfolding led soundTrack soundInside
-          track-zero z = track-led ∙ found-if (decodeAt s n) refl (λ d h. rw (f, g, first-is d h, eq-eqb (p .r) 0 z))
+          module _ (z : p .r ≡ 0) where
+            track-zero : wellFormedFrom last b s at ≡ soundInside last a [] s n
+            unfolding led soundTrack soundInside
+            track-zero = track-led ∙ found-if (decodeAt s n) refl (λ d h. rw (f, g, first-is d h, eq-eqb (p .r) 0 z))
+
+            pub track-unfit : fitsIn a p ≡ false → wellFormedFrom last b s at ≡ false
+            track-unfit q = track-zero ∙ inside-unfit last a [] s n p r q
+
+            pub track-on : fitsIn a p ≡ true → wellFormedFrom last b s at ≡ soundInside last a (0 ∷ []) s (p .next)
+            unfolding member
+            track-on q = track-zero ∙ inside-on last a [] s n p r q refl ∙ ap (λ k. soundInside last a (k ∷ []) s (p .next)) z
 
 pub all-sound : (last : ℕ) (b : Previous) (s : List ℕ) (at : ℕ) → length s ≤ at → wellFormedFrom last b s at ≡ true
 unfolding wellFormedFrom opt noRecords soundTracks

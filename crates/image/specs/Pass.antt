@@ -2,7 +2,7 @@
 use Prim.Native.Nat.{ℕ, _-_, _<_, _≤_}
 use mathlib.Core.Path.{_≡_}
 use mathlib.Core.Bool.{Bool, false, _&&_}
-use mathlib.Core.List.{List, []}
+use mathlib.Core.List.{List, [], _∷_}
 use lib.Dec.{leb}
 use lib.ListN.{length}
 use Rattle.base.specs.Choice.{opt}
@@ -26,10 +26,10 @@ fitsIn a p = same (p .at) a && leb (p .next - p .key) 13030
 unfoldable pub soundInside : ℕ → Address → List ℕ → List ℕ → ℕ → Bool
 soundInside last a seen s at = opt (decodeAt s at) false (λ d. soundRecords a seen (d .records) && soundTracks last (Behind a) (d .tracks))
 
--- The track's records are sound up to a place, and the rest decides; or the image is not well formed.
+-- The records behind R0 are sound up to a place, and the rest decides; or the image is not well formed.
 abbrev pub RecordsTell : List ℕ → ℕ → Address → RecordsEnd → Type 0
-RecordsTell s at a (Upto n) = (at ≤ n) × (n ≤ length s) × ((last : ℕ) → soundInside last a [] s at ≡ wellFormedFrom last (Behind a) s n)
-RecordsTell s at a Unsound = (last : ℕ) → soundInside last a [] s at ≡ false
+RecordsTell s at a (Upto n) = (at ≤ n) × (n ≤ length s) × ((last : ℕ) → soundInside last a (0 ∷ []) s at ≡ wellFormedFrom last (Behind a) s n)
+RecordsTell s at a Unsound = (last : ℕ) → soundInside last a (0 ∷ []) s at ≡ false
 
 -- The track is sound up to a place, and the rest decides; or the image is not well formed.
 abbrev pub TrackTells : ℕ → Previous → List ℕ → ℕ → TrackEnd → Type 0

@@ -45,12 +45,13 @@ pub enum RecordsEnd {
     Unsound,
 }
 
-// The records of a track from a place on. An entry of `seen` is 1 where its R was met.
+// The records of a track behind R0. An entry of `seen` is 1 where its R was met.
 fn records_end(image: &[u8], at: usize, a: Address) -> RecordsEnd
     requires { ⌜ at ≤ length (now image) ⌝ }
     ensures { λ r. ⌜ RecordsTell (now (image .entry)) at a r ⌝ }
 {
     let mut seen = [0u8; 256];
+    seen[0] = 1;
     let mut here = at;
     loop {
         let RecordAt::Located(p) = pack::record_at(image, here) else {
@@ -95,7 +96,10 @@ fn track_end(image: &[u8], at: usize, last: usize, b: Previous) -> TrackEnd
     if p.r != 0 {
         return TrackEnd::Faulty;
     }
-    let RecordsEnd::Upto(end) = records_end(image, next, a) else {
+    if !fits(p, a) {
+        return TrackEnd::Faulty;
+    }
+    let RecordsEnd::Upto(end) = records_end(image, p.next, a) else {
         return TrackEnd::Faulty;
     };
     TrackEnd::Track { at: a, next: end }

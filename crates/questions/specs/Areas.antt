@@ -33,3 +33,12 @@ restartArgumentsFit n = eqb n 16
 -- "The chain's command limit is 1 to 4,096"
 unfoldable pub limitFits : ℕ → Bool
 limitFits n = leb 1 n && leb n 4096
+
+-- the areas and the limit that a run is lent
+unfoldable pub runAreas : (chain arguments storage image faults limit : ℕ) → Bool
+runAreas chain arguments storage image faults limit =
+    chainFits chain && argumentsFit arguments && storageFits storage && imageFits image && faultsFit faults && limitFits limit
+
+-- the areas that a restart is built in
+unfoldable pub restartAreas : (program arguments : ℕ) → Bool
+restartAreas program arguments = programFits program && restartArgumentsFit arguments

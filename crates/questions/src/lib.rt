@@ -1,7 +1,7 @@
 // The questions that a call asks in number order, and question 1: the sizes of the lent areas and the command limit.
 ghost use mathlib.Core.Path.{_≡_};
 ghost use Rattle.questions.specs.Areas;
-ghost use Rattle.questions.specs.Number.{numberOf};
+ghost use Rattle.questions.specs.Number.{numberOf, answerOf};
 
 // What a refusal names: the first question whose answer is no.
 pub enum Question {
@@ -36,6 +36,16 @@ pub fn number(q: Question) -> u8
         Question::Action => 7,
         Question::Format => 8,
         Question::Agreement => 9,
+    }
+}
+
+// A check's answer as a number: 0 accepted, else the refusing question's.
+pub fn answer(c: Checked) -> u8
+    ensures { λ r. ⌜ r ≡ answerOf c ⌝ }
+{
+    match c {
+        Checked::Accepted => 0,
+        Checked::Refused(q) => number(q),
     }
 }
 
@@ -94,4 +104,36 @@ pub fn limit_fits(n: usize) -> bool
         return false;
     }
     n <= 4096
+}
+
+// Question 1 for a run: the five areas' lengths and the command limit.
+pub fn run_areas(chain: usize, arguments: usize, storage: usize, image: usize, faults: usize, limit: usize) -> bool
+    ensures { λ r. ⌜ r ≡ Areas.runAreas chain arguments storage image faults limit ⌝ }
+{
+    if !chain_fits(chain) {
+        return false;
+    }
+    if !arguments_fit(arguments) {
+        return false;
+    }
+    if !storage_fits(storage) {
+        return false;
+    }
+    if !image_fits(image) {
+        return false;
+    }
+    if !faults_fit(faults) {
+        return false;
+    }
+    limit_fits(limit)
+}
+
+// Question 1 for the two restart areas' lengths.
+pub fn restart_areas(program: usize, arguments: usize) -> bool
+    ensures { λ r. ⌜ r ≡ Areas.restartAreas program arguments ⌝ }
+{
+    if !program_fits(program) {
+        return false;
+    }
+    restart_arguments_fit(arguments)
 }

@@ -7,7 +7,7 @@ use mathlib.Core.List.{List, [], _∷_}
 use lib.ListN.{length, length-set}
 use Rattle.pack.proofs.Decode.{record-bounds}
 use Rattle.image.specs.Pass.{soundInside}
-use Rattle.image.proofs.Marks.{Marks, marks-none, marks-more, marked, unmarked}
+use Rattle.image.proofs.Marks.{Marks, marks-zero, marks-more, marked, unmarked}
 use Rattle.image.proofs.Pass.{inside-end, inside-unfit, inside-again, inside-on}
 use borrow.Author.Needs.{needs}
 use native.Mathlib.Omega.{arith}
@@ -18,7 +18,7 @@ abbrev Inv-loop : tie.InvT-loop
 Inv-loop image at a seen₀ here₀ seen here = 
     (qs : List ℕ)
     × Marks seen qs
-    × ((last : ℕ) → soundInside last a [] image at ≡ soundInside last a qs image here)
+    × ((last : ℕ) → soundInside last a (0 ∷ []) image at ≡ soundInside last a qs image here)
     × (length seen ≡ 256)
     × (at ≤ here)
     × (here ≤ length image)
@@ -26,8 +26,11 @@ Inv-loop image at a seen₀ here₀ seen here =
 abbrev μ-loop : tie.MeasureT-loop
 μ-loop image at a seen₀ here₀ seen here = length image - here
 
+array-write-seen : tie.Need-array-write-seen Inv-loop μ-loop
+array-write-seen c = search needs
+
 loop-holds : tie.Need-loop-holds Inv-loop μ-loop
-loop-holds c = ([], marks-none, λ last. refl, refl, omega arith, omega arith)
+loop-holds c = (0 ∷ [], marks-zero, λ last. refl, refl, omega arith, omega arith)
 
 record-at-requires : tie.Need-record-at-requires Inv-loop μ-loop
 record-at-requires c κs = search needs
@@ -72,8 +75,8 @@ returns-3 c =
     λ last. i .2 last ∙ inside-again last _ _ _ _ _ (sym (call .record-at .ensures .0) ∙ found .p .given .1) (sym (fit .before .fits2 .ensures) ∙ not-false _ (fit .if1 .left))
     (marked (call .before .loop .seen) (i .0) (i .1) _ (b .number) (c .if2 .taken))
 
-array-write-seen : tie.Need-array-write-seen Inv-loop μ-loop
-array-write-seen c =
+array-write-seen-2 : tie.Need-array-write-seen-2 Inv-loop μ-loop
+array-write-seen-2 c =
     let found = c .before .before .before .before in
     let b = rw (found .p .given .1) at (found .before .before .record-at .ensures .1) in
     omega arith
@@ -107,6 +110,7 @@ records-end-spec =
     (tie.spec
     Inv-loop
     μ-loop
+    array-write-seen
     loop-holds
     record-at-requires
     enum-known-p
@@ -116,6 +120,6 @@ records-end-spec =
     returns-2
     array-read-if2
     returns-3
-    array-write-seen
+    array-write-seen-2
     loop-less
     loop-again)

@@ -3,7 +3,7 @@ use native.Mathlib.Omega.{arith}
 use mathlib.Core.Path.{_≡_, refl, ap, sym, _∙_}
 use borrow.Author.Tests.{not-true, not-false}
 use Rattle.pack.proofs.Decode.{home-bounds, record-bounds}
-use Rattle.image.proofs.Pass.{track-none, track-descends, track-off, track-empty, track-unzero, track-zero}
+use Rattle.image.proofs.Pass.{track-none, track-descends, track-off, track-empty, track-unzero, track-unfit, track-on}
 use borrow.Author.Needs.{needs}
 use Rattle.image.proofs.track_end.Statement.{statement}
 use Rattle.image.proofs.track_end.Tie as tie
@@ -71,11 +71,29 @@ returns-5 c =
     let r = sym (first .before .before .record-at .ensures .0) ∙ first .p .given .1 in
     track-unzero _ _ _ _ _ _ e f g _ r (c .if3 .taken)
 
+fits-requires : tie.Need-fits-requires
+fits-requires c κs =
+    let first = c .before .before .before in
+    let b = rw (first .p .given .1) at (first .before .before .record-at .ensures .1) in
+    omega arith
+
+returns-6 : tie.Need-returns-6
+returns-6 c =
+    let home = c .before .before .before .before .before .before .before .before .before .before .before .before .before in
+    let e = sym (home .before .before .home-at .ensures) ∙ home .a .given .1 in
+    let order = c .before .before .before .before .before .before .before .before .before .before in
+    let f = sym (order .before .may-follow .ensures) ∙ not-false _ (order .if1 .left) in
+    let range = c .before .before .before .before .before .before .before .before in
+    let g = sym (range .before .on-pack .ensures) ∙ not-false _ (range .if2 .left) in
+    let first = c .before .before .before .before .before in
+    let r = sym (first .before .before .record-at .ensures .0) ∙ first .p .given .1 in
+    track-unfit _ _ _ _ _ _ e f g _ r (c .before .before .if3 .left) (sym (c .before .fits2 .ensures) ∙ not-true _ (c .if4 .taken))
+
 records-end-requires : tie.Need-records-end-requires
 records-end-requires c κs =
-    let home = c .before .before .before .before .before .before .before .before .before .before .before in
-    let e = sym (home .before .before .home-at .ensures) ∙ home .a .given .1 in
-    home-bounds _ _ _ _ e .1
+    let first = c .before .before .before .before .before in
+    let b = rw (first .p .given .1) at (first .before .before .record-at .ensures .1) in
+    b .inside
 
 enum-known-end : tie.Need-enum-known-end
 enum-known-end c = search needs
@@ -83,32 +101,39 @@ enum-known-end c = search needs
 enum-told-3 : tie.Need-enum-told-3
 enum-told-3 c = search needs
 
-returns-6 : tie.Need-returns-6
-returns-6 c =
-    let home = c .before .before .before .before .before .before .before .before .before .before .before .before .before .before in
-    let e = sym (home .before .before .home-at .ensures) ∙ home .a .given .1 in
-    let order = c .before .before .before .before .before .before .before .before .before .before .before in
-    let f = sym (order .before .may-follow .ensures) ∙ not-false _ (order .if1 .left) in
-    let range = c .before .before .before .before .before .before .before .before .before in
-    let g = sym (range .before .on-pack .ensures) ∙ not-false _ (range .if2 .left) in
-    let first = c .before .before .before .before .before .before in
-    let r = sym (first .before .before .record-at .ensures .0) ∙ first .p .given .1 in
-    let ends = rw (c .enum-told3 .given .1) at (c .before .before .records-end .ensures) in
-    track-zero _ _ _ _ _ _ e f g _ r (c .before .before .before .if3 .left) ∙ ends _
-
 returns-7 : tie.Need-returns-7
 returns-7 c =
-    let home = c .before .before .before .before .before .before .before .before .before .before .before .before .before .before .before in
+    let home = c .before .before .before .before .before .before .before .before .before .before .before .before .before .before .before .before in
     let e = sym (home .before .before .home-at .ensures) ∙ home .a .given .1 in
-    let order = c .before .before .before .before .before .before .before .before .before .before .before .before in
+    let order = c .before .before .before .before .before .before .before .before .before .before .before .before .before in
     let f = sym (order .before .may-follow .ensures) ∙ not-false _ (order .if1 .left) in
-    let range = c .before .before .before .before .before .before .before .before .before .before in
+    let range = c .before .before .before .before .before .before .before .before .before .before .before in
     let g = sym (range .before .on-pack .ensures) ∙ not-false _ (range .if2 .left) in
-    let first = c .before .before .before .before .before .before .before in
+    let first = c .before .before .before .before .before .before .before .before in
     let r = sym (first .before .before .record-at .ensures .0) ∙ first .p .given .1 in
+    let fit = c .before .before .before in
+    let q = sym (fit .before .fits2 .ensures) ∙ not-false _ (fit .if4 .left) in
+    let ends = rw (c .enum-told3 .given .1) at (c .before .before .records-end .ensures) in
+    track-on _ _ _ _ _ _ e f g _ r (fit .before .before .if3 .left) q ∙ ends _
+
+returns-8 : tie.Need-returns-8
+returns-8 c =
+    let home = c .before .before .before .before .before .before .before .before .before .before .before .before .before .before .before .before .before in
+    let e = sym (home .before .before .home-at .ensures) ∙ home .a .given .1 in
+    let order = c .before .before .before .before .before .before .before .before .before .before .before .before .before .before in
+    let f = sym (order .before .may-follow .ensures) ∙ not-false _ (order .if1 .left) in
+    let range = c .before .before .before .before .before .before .before .before .before .before .before .before in
+    let g = sym (range .before .on-pack .ensures) ∙ not-false _ (range .if2 .left) in
+    let first = c .before .before .before .before .before .before .before .before .before in
+    let r = sym (first .before .before .record-at .ensures .0) ∙ first .p .given .1 in
+    let fit = c .before .before .before .before in
+    let q = sym (fit .before .fits2 .ensures) ∙ not-false _ (fit .if4 .left) in
     let ends = rw (c .before .end .given .1) at (c .before .before .before .records-end .ensures) in
     let b = home-bounds _ _ _ _ e in
-    (omega arith, ends .1, track-zero _ _ _ _ _ _ e f g _ r (c .before .before .before .before .if3 .left) ∙ ends .2 _)
+    let l = record-bounds _ _ _ r in
+    let k = l .behind in
+    let o = l .in-order in
+    (omega arith, ends .1, track-on _ _ _ _ _ _ e f g _ r (fit .before .before .if3 .left) q ∙ ends .2 _)
 
 pub track-end-spec : {M : Type 1} → statement M
 track-end-spec =
@@ -127,8 +152,10 @@ track-end-spec =
     enum-told-2
     returns-4
     returns-5
+    fits-requires
+    returns-6
     records-end-requires
     enum-known-end
     enum-told-3
-    returns-6
-    returns-7)
+    returns-7
+    returns-8)
