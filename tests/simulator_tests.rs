@@ -2,4 +2,11 @@
 //! code they are about.
 
 mod cases;
+#[path = "differential/chains/mod.rs"]
+mod chains;
+#[allow(dead_code)]
+#[path = "differential/generate.rs"]
+mod generate;
+#[path = "differential/random.rs"]
+mod random;
 mod simulator;

@@ -56,5 +56,5 @@ part-three s a h =
     let n : a + 3 - a ≡ 3 = omega arith in
     let two : a + 1 + 1 ≡ a + 2 = omega arith in
     let tail : drop (a + 1) s ≡ getD s (a + 1) 0 ∷ getD s (a + 2) 0 ∷ drop (a + 2 + 1) s =
-      drop-one s (a + 1) (omega arith) ∙ ap (λ l. getD s (a + 1) 0 ∷ l) (rw two (drop-one s (a + 2) (omega arith))) in
+    drop-one s (a + 1) (omega arith) ∙ ap (λ l. getD s (a + 1) 0 ∷ l) (rw two (drop-one s (a + 2) (omega arith))) in
     ap (λ l. take (a + 3 - a) l) (drop-one s a (omega arith) ∙ ap (λ l. getD s a 0 ∷ l) tail) ∙ rw n

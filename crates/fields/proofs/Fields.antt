@@ -80,6 +80,7 @@ not-begins l at h = ⊎-elim short long h
   where
     short : length l - at < 3 → begins (drop at l) ≡ false
     short g = rw (lt-leb 3 (length (drop at l)) (simp length-drop (omega arith)))
+
     long : length l - (at + 3) < be16At l (at + 1) → begins (drop at l) ≡ false
     long g =
         split (leb 3 (length (drop at l)))
@@ -104,7 +105,7 @@ module _ (l : List ℕ) (at t st nx : ℕ) (w : Stands l at t st nx) where
       let n : at + (3 + be16At (drop at l) 1) ≡ nx = omega (arith, be16-drop at 1 l, w .next-is, w .start-is) in
       let tag : getD (drop at l) 0 0 ≡ t = getD-drop at l 0 0 ∙ rw add-zero (sym (w .tag-is)) in
       let body : part (drop at l) 3 (3 + be16At (drop at l) 1) ≡ part l st nx =
-        part-drop at 3 (3 + be16At (drop at l) 1) l ∙ rw (n, ← (w .start-is)) in
+      part-drop at 3 (3 + be16At (drop at l) 1) l ∙ rw (n, ← (w .start-is)) in
       λ i. record { tag = tag i; contents = body i }
 
   behind-at : behind (drop at l) ≡ drop nx l

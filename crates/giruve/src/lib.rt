@@ -34,7 +34,14 @@ pub extern "C" fn giruve_check_extent(extent: &[u8]) -> u8
 
 // Question 1 for a run, from the lengths of its areas and its command limit: 0 or 1.
 #[no_mangle]
-pub extern "C" fn giruve_check_areas(chain: usize, arguments: usize, storage: usize, image: usize, faults: usize, limit: usize) -> u8
+pub extern "C" fn giruve_check_areas(
+    chain: usize,
+    arguments: usize,
+    storage: usize,
+    image: usize,
+    faults: usize,
+    limit: usize,
+) -> u8
     ensures { λ r. ⌜ r ≡ answerOf (runAnswer chain arguments storage image faults limit) ⌝ }
 {
     if questions::run_areas(chain, arguments, storage, image, faults, limit) {

@@ -52,7 +52,7 @@ module _ (last : ℕ) (a : Address) (seen s : List ℕ) (at : ℕ) where
         rw (
           decode-record s at p e,
           opt-opt (decodeAt s (p .next)) (λ d. some (ledByRecord (recordFrom s p) d)) false
-          (λ d. soundRecords a seen (d .records) && soundTracks last (Behind a) (d .tracks)),
+              (λ d. soundRecords a seen (d .records) && soundTracks last (Behind a) (d .tracks)),
         )
 
     pub inside-unfit : fitsIn a p ≡ false → soundInside last a seen s at ≡ false
@@ -138,3 +138,13 @@ decodes last s h = by (decodeAt s 0) refl
     by : (o : Option Decoded) → decodeAt s 0 ≡ o → (d : Decoded) × (decodeAt s 0 ≡ some d)
     by none q = let w : false ≡ true = rw q at h in let z : _≡_ {A = ℕ} 0 1 = cc in absurd (omega arith)
     by (some d) q = (d, q)
+
+-- ---- what the test of one record answers
+module _ (a : Address) (p : Place) where
+  pub other-track : same (p .at) a ≡ false → false ≡ fitsIn a p
+  unfolding fitsIn
+  other-track e = rw e
+
+  pub same-track : same (p .at) a ≡ true → leb (p .next - p .key) 13030 ≡ fitsIn a p
+  unfolding fitsIn
+  same-track e = rw e

@@ -122,11 +122,16 @@ home-from s at a n h = by (taggedAt s at) refl
     by : (f : Tagged) → taggedAt s at ≡ f → (t : ℕ) × (st : ℕ) × (nx : ℕ) × (taggedAt s at ≡ Field t st nx) × (homeIn s t st nx ≡ Home a n) × (n ≡ nx)
     by Torn q = let w : _≡_ {A = HomeAt} NoHome (Home a n) = rw q at h in let z : _≡_ {A = ℕ} 0 1 = cc in absurd (omega arith)
     by (Field t st nx) q =
-        let w : homeIn s t st nx ≡ Home a n = rw q at h in
-        (t, st, nx, q, w,
+        let w : homeIn s t st nx ≡ Home a n = rw q at h in (
+          t,
+          st,
+          nx,
+          q,
+          w,
           split (eqb t 1 && isHome s st nx)
-          (λ e. let v : _≡_ {A = HomeAt} (Home (record { cylinder = be16At s (st + 1); head = getD s (st + 4) 0 }) nx) (Home a n) = rw e at w in (cc))
-          (λ e. let v : _≡_ {A = HomeAt} NoHome (Home a n) = rw e at w in let z : _≡_ {A = ℕ} 0 1 = cc in absurd (omega arith)))
+              (λ e. let v : _≡_ {A = HomeAt} (Home (record { cylinder = be16At s (st + 1); head = getD s (st + 4) 0 }) nx) (Home a n) = rw e at w in (cc))
+              (λ e. let v : _≡_ {A = HomeAt} NoHome (Home a n) = rw e at w in let z : _≡_ {A = ℕ} 0 1 = cc in absurd (omega arith)),
+        )
 
 place-from : (s : List ℕ) (at : ℕ) (p : Place) → recordAt s at ≡ Located p
     → (t : ℕ) × (st : ℕ) × (nx : ℕ) × (taggedAt s at ≡ Field t st nx) × (placeIn s t st nx ≡ Located p) × (eqb t 2 ≡ true) × (isRecord s st nx ≡ true) × (placed s st nx ≡ p)

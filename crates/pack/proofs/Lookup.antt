@@ -88,6 +88,7 @@ module _ (s : List ℕ) (at : ℕ) (d : Decoded) (h : decodeAt s at ≡ some d) 
             let o = next-field g in
             let v : some (ledByRecord (recordFrom s p) (o .0)) ≡ some d = rw (q, r) at (o .2) in
             (o .0, o .1, tracks-are (sym (some-is v)))
+
         by : (o : HomeAt) → homeIn s t st nx ≡ o → (e : Decoded) × (decodeAt s nx ≡ some e) × (trackIn (d .tracks) a ≡ trackIn (e .tracks) a)
         by NoHome q = record-by q (placeIn s t st nx) refl
         by (Home b n) q =

@@ -107,7 +107,14 @@ pub fn limit_fits(n: usize) -> bool
 }
 
 // Question 1 for a run: the five areas' lengths and the command limit.
-pub fn run_areas(chain: usize, arguments: usize, storage: usize, image: usize, faults: usize, limit: usize) -> bool
+pub fn run_areas(
+    chain: usize,
+    arguments: usize,
+    storage: usize,
+    image: usize,
+    faults: usize,
+    limit: usize,
+) -> bool
     ensures { λ r. ⌜ r ≡ Areas.runAreas chain arguments storage image faults limit ⌝ }
 {
     if !chain_fits(chain) {

@@ -13,7 +13,7 @@ use Rattle.faults.proofs.find_fault.Statement.{statement}
 use Rattle.faults.proofs.find_fault.Tie as tie
 
 abbrev Inv-loop : tie.InvT-loop
-Inv-loop faults at a r here₀ here = 
+Inv-loop faults at a r here₀ here =
     (fs : List Fault) → faultsAt faults at ≡ some fs → (gs : List Fault) × (faultsAt faults here ≡ some gs) × (naming fs a r ≡ naming gs a r)
 
 abbrev μ-loop : tie.MeasureT-loop

@@ -1,8 +1,7 @@
--- `giruve::giruve_check_areas` meets its contract: each answer rewrites by the test that led there. Assumes nothing.
-use mathlib.Core.Path.{_≡_, refl, ap, sym, _∙_}
+-- `giruve::giruve_check_areas` meets its contract: each answer is a law of question 1. Assumes nothing.
+use mathlib.Core.Path.{_≡_, ap, sym, _∙_}
 use Rattle.questions.specs.Number.{answerOf}
-use Rattle.base.specs.Choice.{pick}
-use Rattle.giruve.specs.Areas.{runAnswer}
+use Rattle.giruve.proofs.Areas.{run-fits, run-unfit}
 use borrow.Author.Needs.{needs}
 use Rattle.giruve.proofs.giruve_check_areas.Statement.{statement}
 use Rattle.giruve.proofs.giruve_check_areas.Tie as tie
@@ -14,15 +13,13 @@ answer-requires : tie.Need-answer-requires
 answer-requires c κs = search needs
 
 returns : tie.Need-returns
-unfolding runAnswer pick
-returns c = rw (sym (c .before .before .run-areas .ensures) ∙ c .before .if1 .taken) (c .answer .ensures)
+returns c = c .answer .ensures ∙ ap answerOf (run-fits _ _ _ _ _ _ (sym (c .before .before .run-areas .ensures) ∙ c .before .if1 .taken))
 
 answer-requires-2 : tie.Need-answer-requires-2
 answer-requires-2 c κs = search needs
 
 returns-2 : tie.Need-returns-2
-unfolding runAnswer pick
-returns-2 c = rw (sym (c .before .before .run-areas .ensures) ∙ c .before .if1 .left) (c .answer2 .ensures)
+returns-2 c = c .answer2 .ensures ∙ ap answerOf (run-unfit _ _ _ _ _ _ (sym (c .before .before .run-areas .ensures) ∙ c .before .if1 .left))
 
 pub giruve-check-areas-spec : {M : Type 1} → statement M
 giruve-check-areas-spec =

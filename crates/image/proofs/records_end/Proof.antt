@@ -15,7 +15,7 @@ use Rattle.image.proofs.records_end.Statement.{statement}
 use Rattle.image.proofs.records_end.Tie as tie
 
 abbrev Inv-loop : tie.InvT-loop
-Inv-loop image at a seen₀ here₀ seen here = 
+Inv-loop image at a seen₀ here₀ seen here =
     (qs : List ℕ)
     × Marks seen qs
     × ((last : ℕ) → soundInside last a (0 ∷ []) image at ≡ soundInside last a qs image here)

@@ -13,7 +13,7 @@ use Rattle.pack.proofs.find_record.Statement.{statement}
 use Rattle.pack.proofs.find_record.Tie as tie
 
 abbrev Inv-loop : tie.InvT-loop
-Inv-loop image at r here₀ here = 
+Inv-loop image at r here₀ here =
     (d : Decoded) → decodeAt image at ≡ some d → (e : Decoded) × (decodeAt image here ≡ some e) × (numbered (d .records) r ≡ numbered (e .records) r)
 
 abbrev μ-loop : tie.MeasureT-loop

@@ -13,7 +13,7 @@ use Rattle.pack.proofs.find_track.Statement.{statement}
 use Rattle.pack.proofs.find_track.Tie as tie
 
 abbrev Inv-loop : tie.InvT-loop
-Inv-loop image a here₀ here = 
+Inv-loop image a here₀ here =
     ((d : Decoded) → decodeAt image 0 ≡ some d → (e : Decoded) × (decodeAt image here ≡ some e) × (trackIn (d .tracks) a ≡ trackIn (e .tracks) a))
     × (here ≤ length image)
 
@@ -65,9 +65,9 @@ loop-again c =
     let call = field .before .before in
     let e = sym (call .field-at .ensures) ∙ field .tag .given .1 in (
       λ d h.
-      let i = call .before .loop .inv .0 d h in
-      let t = track-on _ _ (i .0) (i .1) e _ (sym (c .before .is-track .ensures) ∙ c .if1 .left) in
-      (t .0, t .1, i .2 ∙ t .2),
+          let i = call .before .loop .inv .0 d h in
+          let t = track-on _ _ (i .0) (i .1) e _ (sym (c .before .is-track .ensures) ∙ c .if1 .left) in
+          (t .0, t .1, i .2 ∙ t .2),
       bounds _ _ e .2,
     )
 

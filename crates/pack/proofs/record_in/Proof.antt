@@ -66,17 +66,18 @@ add-t16 c = search needs
 
 returns-4 : tie.Need-returns-4
 returns-4 c =
-    let lengths = c .before .before .before .before in
-    (record-whole _ _ _ _ (lengths .before .before .before .if1 .left) (lengths .before .before .if2 .left) _ _ (lengths .before .byte .ensures .0) (lengths .be16 .ensures .0)
-    (c .before .before .before .if3 .left) (c .before .before .be162 .ensures .0) (c .before .be163 .ensures .0) (c .byte2 .ensures .0),
+    let lengths = c .before .before .before .before in (
+      record-whole _ _ _ _ (lengths .before .before .before .if1 .left) (lengths .before .before .if2 .left) _ _ (lengths .before .byte .ensures .0) (lengths .be16 .ensures .0)
+          (c .before .before .before .if3 .left) (c .before .before .be162 .ensures .0) (c .before .be163 .ensures .0) (c .byte2 .ensures .0),
       record {
-      number = c .byte2 .ensures .1;
-      key-first = omega arith;
-      key-short = omega arith;
-      body-first = omega arith;
-      body-short = omega arith;
-      inside = search needs;
-    })
+        number = c .byte2 .ensures .1;
+        key-first = omega arith;
+        key-short = omega arith;
+        body-first = omega arith;
+        body-short = omega arith;
+        inside = search needs;
+      },
+    )
 
 pub record-in-spec : {M : Type 1} → statement M
 record-in-spec =

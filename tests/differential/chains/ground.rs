@@ -1,0 +1,108 @@
+//! Small images with their fault lists, so that a chain meets every record often.
+
+use crate::generate::{self, written};
+use crate::random::Random;
+use crate::simulator::encode::{put_home_address, put_record};
+use crate::simulator::pack::{Pack, TrackAddress};
+use crate::simulator::LAST_CYLINDER;
+
+pub struct Ground {
+    pub image: Vec<u8>,
+    pub faults: Vec<u8>,
+    /// Bytes of storage.
+    pub storage: usize,
+}
+
+/// Ascending; a run starts at the first.
+const TRACKS: [TrackAddress; 6] = [
+    at(0, 0),
+    at(0, 1),
+    at(0, 18),
+    at(1, 0),
+    at(257, 1),
+    at(LAST_CYLINDER, 18),
+];
+
+const fn at(cylinder: u16, head: u16) -> TrackAddress {
+    TrackAddress { cylinder, head }
+}
+
+pub fn any_track(random: &mut Random) -> TrackAddress {
+    random.pick(&TRACKS)
+}
+
+impl Ground {
+    pub fn new(random: &mut Random) -> Ground {
+        let image = image(random);
+        let pack = generate::decoded(&image);
+        let faults = if random.once_in(2) {
+            Vec::new()
+        } else {
+            written(&generate::faults(random, &pack))
+        };
+        Ground {
+            faults,
+            storage: storage(random),
+            image,
+        }
+    }
+
+    /// As `new`, with a fault where a record can have one.
+    pub fn faulted(random: &mut Random) -> Ground {
+        let mut ground = Ground::new(random);
+        if ground.faults.is_empty() {
+            ground.faults = written(&generate::faults(random, &ground.pack()));
+        }
+        ground
+    }
+
+    pub fn pack(&self) -> Pack<'_> {
+        generate::decoded(&self.image)
+    }
+}
+
+fn storage(random: &mut Random) -> usize {
+    match random.below(16) {
+        0 => 0,
+        1 => random.within(1..=7),
+        2..=5 => random.within(8..=40),
+        6 => random.within(300..=600),
+        _ => random.within(40..=200),
+    }
+}
+
+fn image(random: &mut Random) -> Vec<u8> {
+    let mut image = Vec::new();
+    for (place, track) in TRACKS.into_iter().enumerate() {
+        let left_out = if place == 0 {
+            random.once_in(16)
+        } else {
+            !random.once_in(3)
+        };
+        if !left_out {
+            put_track(random, &mut image, track);
+        }
+    }
+    image
+}
+
+fn put_track(random: &mut Random, image: &mut Vec<u8>, track: TrackAddress) {
+    put_home_address(image, track);
+    let mut numbers: Vec<u8> = vec![1, 2, 3, 4, 5, random.within(6..=255) as u8];
+    if random.once_in(2) {
+        random.shuffle(&mut numbers);
+    }
+    numbers.truncate(random.pick(&[0, 1, 2, 3, 3, 4, 5, 6]));
+    let r0 = random.pick(&[8, 8, 8, 0, 3]);
+    put_record(image, track, 0, &[], &random.bytes(r0));
+    for number in numbers {
+        let key = random.pick(&[0, 0, 0, 0, 1, 2, 5]);
+        let data = match random.below(16) {
+            0 | 1 => 0,
+            2 | 3 => random.within(20..=60),
+            _ => random.within(1..=12),
+        };
+        let (key, data) = (random.bytes(key), random.bytes(data));
+        put_record(image, track, number, &key, &data);
+    }
+}
