@@ -108,3 +108,87 @@ fn compare(expected: &Ran, shown: &Ran) -> Vec<String> {
 fn different<T: Debug + PartialEq>(what: &str, expected: &T, shown: &T) -> Option<String> {
     (expected != shown).then(|| format!("{what}: expected {expected:02X?}, came {shown:02X?}"))
 }
+
+#[cfg(test)]
+mod tests {
+    use super::*;
+
+    fn case() -> Case {
+        let text = "case a\nstorage 01\nend 000008 0C 00 0000\nstorage-after 02\ntaken none\n";
+        reader::read(text).unwrap().remove(0)
+    }
+
+    fn expected() -> Ran {
+        match case().answer {
+            Answer::Ran(ran) => ran,
+            Answer::Refused(_) => unreachable!("the case is not refused"),
+        }
+    }
+
+    fn right(lent: &mut Lent) -> Answer {
+        lent.storage[0] = 2;
+        Answer::Ran(expected())
+    }
+
+    /// Whether one difference is told, of this part.
+    fn told(run: Runner, part: &str) -> bool {
+        let differences = case().differences(run);
+        matches!(&differences[..], [difference] if difference.starts_with(part))
+    }
+
+    #[test]
+    fn nothing_to_tell() {
+        assert!(case().differences(right).is_empty());
+        let not_known: Runner = |lent| {
+            right(lent);
+            Answer::Ran(Ran {
+                taken: None,
+                ..expected()
+            })
+        };
+        assert!(case().differences(not_known).is_empty());
+    }
+
+    #[test]
+    fn each_part_is_compared() {
+        assert!(told(|_| Answer::Ran(expected()), "storage"));
+        assert!(told(
+            |lent| {
+                right(lent);
+                Answer::Refused(1)
+            },
+            "answer"
+        ));
+        assert!(told(
+            |lent| {
+                lent.arguments.push(0);
+                right(lent)
+            },
+            "an area"
+        ));
+        let wrong: [(Runner, &str); 6] = [
+            (
+                |lent| wrong_in(lent, |ran| ran.ending = Ending::Limit),
+                "ending",
+            ),
+            (|lent| wrong_in(lent, |ran| ran.csw[3] = 0), "CSW"),
+            (|lent| wrong_in(lent, |ran| ran.sense[0] = 1), "sense"),
+            (|lent| wrong_in(lent, |ran| ran.mask = Some(0)), "mask"),
+            (|lent| wrong_in(lent, |ran| ran.cut = Some(0)), "cut"),
+            (
+                |lent| wrong_in(lent, |ran| ran.taken = Some(vec![String::new()])),
+                "taken",
+            ),
+        ];
+        for (run, part) in wrong {
+            assert!(told(run, part));
+        }
+    }
+
+    fn wrong_in(lent: &mut Lent, change: fn(&mut Ran)) -> Answer {
+        lent.storage[0] = 2;
+        let mut ran = expected();
+        change(&mut ran);
+        Answer::Ran(ran)
+    }
+}

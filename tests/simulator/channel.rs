@@ -289,3 +289,259 @@ impl<'a> Channel<'a> {
         [0, a0, a1, a2, status.unit, status.channel, c0, c1]
     }
 }
+
+#[cfg(test)]
+mod tests {
+    use super::*;
+    use crate::simulator::encode::ccw;
+
+    const CD: u8 = FLAG_CHAIN_DATA;
+    const CC: u8 = FLAG_CHAIN_COMMAND;
+    const SLI: u8 = FLAG_SUPPRESS_LENGTH;
+
+    /// The CCWs one behind the other.
+    fn chain(ccws: &[[u8; CCW_LENGTH]]) -> Vec<u8> {
+        ccws.concat()
+    }
+
+    fn program(chain: &[u8]) -> Program<'_> {
+        Program {
+            chain,
+            arguments: &[],
+            restart: None,
+        }
+    }
+
+    /// Address in the CSW.
+    fn shown(channel: &Channel) -> usize {
+        let csw = channel.csw(Status::ended(0));
+        u32::from_be_bytes([0, csw[1], csw[2], csw[3]]) as usize
+    }
+
+    fn stretch(from: usize, length: usize, storage: usize) -> Stretch {
+        Stretch {
+            from,
+            length,
+            storage: Some(storage),
+        }
+    }
+
+    /// The stretches of a read of `length` bytes whose first CCW is the chain's, 600 bytes lent.
+    fn walked(chain: &[u8], length: usize) -> (Vec<Stretch>, Result<ReadEnd, ProgramCheck>) {
+        let mut channel = Channel::new(program(chain), 600);
+        let first = channel.fetch_first().unwrap();
+        let mut stretches = Vec::new();
+        let end = channel.walk(first, length, |stretch| stretches.push(stretch));
+        (stretches, end)
+    }
+
+    #[test]
+    fn ccw_taken_apart() {
+        let bytes = [0x1E, 0x12, 0x34, 0x56, 0xA0, 0xFF, 0x01, 0x02];
+        let mut channel = Channel::new(program(&bytes), 0);
+        let expected = Ccw {
+            at: 0,
+            command: 0x1E,
+            address: 0x12_3456,
+            flags: 0xA0,
+            count: 0x0102,
+        };
+        assert_eq!(channel.fetch_first(), Ok(expected));
+        assert_eq!(expected.behind(), 8);
+        assert!(expected.has(CD) && expected.has(SLI) && !expected.has(CC));
+    }
+
+    #[test]
+    fn tic_is_any_code_that_ends_in_8() {
+        for code in 0..=255 {
+            let bytes = ccw(code, 0, 0, 1);
+            let mut channel = Channel::new(program(&bytes), 0);
+            let is_tic = channel.fetch_first() == Err(ProgramCheck::TicFirst);
+            assert_eq!(is_tic, code % 16 == 8);
+        }
+    }
+
+    #[test]
+    fn at_most_one_tic() {
+        let bytes = chain(&[
+            ccw(0x03, 0, CC, 1),
+            ccw(0x08, 0x18, 0, 0),
+            ccw(0x08, 0x08, 0, 0),
+            ccw(0x03, 0, 0, 2),
+        ]);
+        let mut channel = Channel::new(program(&bytes), 0);
+        assert_eq!(channel.fetch(0x08).map(|ccw| ccw.at), Ok(0x18));
+        assert_eq!(shown(&channel), 0x20);
+        assert_eq!(channel.fetch(0x10), Err(ProgramCheck::TicToTic));
+        assert_eq!(shown(&channel), 0x10);
+    }
+
+    #[test]
+    fn bad_address_is_not_fetched() {
+        let bytes = chain(&[ccw(0x03, 0, CC, 1), ccw(0x08, 0x0C, 0, 0)]);
+        let mut channel = Channel::new(program(&bytes), 0);
+        assert_eq!(channel.fetch(0x10), Err(ProgramCheck::PastTheChain));
+        assert_eq!(channel.fetch(0x04), Err(ProgramCheck::NotAMultipleOf8));
+        assert_eq!(shown(&channel), 0x08);
+        assert_eq!(channel.fetch(0x08), Err(ProgramCheck::NotAMultipleOf8));
+        assert_eq!(shown(&channel), 0x10);
+    }
+
+    #[test]
+    fn count_and_flags_of_every_ccw_but_a_tic() {
+        let bytes = chain(&[
+            ccw(0x08, 0x08, FLAGS_ZERO, 0),
+            ccw(0x03, 0, 0, 0),
+            ccw(0x00, 0, 0x04, 1),
+            ccw(0x00, 0, !FLAGS_ZERO, 1),
+        ]);
+        let mut channel = Channel::new(program(&bytes), 0);
+        assert_eq!(channel.fetch(0x00), Err(ProgramCheck::CountZero));
+        assert_eq!(channel.fetch(0x10), Err(ProgramCheck::LowFlags));
+        assert!(channel.fetch(0x18).is_ok());
+    }
+
+    #[test]
+    fn restart_leads_to_the_chain_and_not_back() {
+        let chain = chain(&[ccw(0x03, 0, CC, 1), ccw(0x08, RESTART_PROGRAM, 0, 0)]);
+        let mut restart_program = ccw(0x03, 0, CC, 1).to_vec();
+        restart_program.extend(ccw(0x08, 0, 0, 0));
+        restart_program.resize(64, 0);
+        let restart = Restart {
+            program: &restart_program,
+            arguments: &[0; 16],
+        };
+        let program = Program {
+            restart: Some(restart),
+            ..program(&chain)
+        };
+        let mut channel = Channel::new(program, 0);
+        assert_eq!(channel.fetch_first().map(|ccw| ccw.at), Ok(0x1000));
+        assert_eq!(channel.fetch(0x1040), Err(ProgramCheck::PastTheChain));
+        assert_eq!(channel.fetch(0x1008).map(|ccw| ccw.at), Ok(0));
+        assert_eq!(channel.fetch(0x08), Err(ProgramCheck::PastTheChain));
+        assert_eq!(shown(&channel), 0x10);
+    }
+
+    #[test]
+    fn arguments_of_chain_and_restart() {
+        let chain = ccw(0x07, 1, 0, 2);
+        let mut restart_program = ccw(0x07, 0x200E, 0, 2).to_vec();
+        restart_program.resize(64, 0);
+        let mut restart_arguments = [0; 16];
+        restart_arguments[14] = 0xEE;
+        let restart = Restart {
+            program: &restart_program,
+            arguments: &restart_arguments,
+        };
+        let program = Program {
+            chain: &chain,
+            arguments: &[1, 2, 3],
+            restart: Some(restart),
+        };
+        let mut channel = Channel::new(program, 0);
+        let mut own = channel.fetch_first().unwrap();
+        assert_eq!(channel.argument(&own), Ok(&[0xEE, 0][..]));
+        for address in [0x200F, 0x1FFF, 0, 0xFF_FFFF] {
+            own.address = address;
+            assert_eq!(channel.argument(&own), Err(ProgramCheck::DataRange));
+        }
+        let mut users = channel.fetch(0).unwrap();
+        assert_eq!(channel.argument(&users), Ok(&[2, 3][..]));
+        for address in [2, 0x2000] {
+            users.address = address;
+            assert_eq!(channel.argument(&users), Err(ProgramCheck::DataRange));
+        }
+    }
+
+    #[test]
+    fn t9_to_t11_stretches() {
+        let apart = chain(&[ccw(0x06, 100, CD, 78), ccw(0x06, 500, 0, 2)]);
+        let (stretches, end) = walked(&apart, 80);
+        assert_eq!(stretches, [stretch(0, 78, 100), stretch(78, 2, 500)]);
+        let end = end.unwrap();
+        assert_eq!((end.ccw.at, end.count_left, end.bytes_left_over), (8, 0, 0));
+        let overlapping = chain(&[ccw(0x06, 100, CD, 4), ccw(0x06, 102, 0, 4)]);
+        let (stretches, _) = walked(&overlapping, 8);
+        assert_eq!(stretches, [stretch(0, 4, 100), stretch(4, 4, 102)]);
+    }
+
+    #[test]
+    fn skipped_stretch_has_no_place() {
+        let bytes = chain(&[ccw(0x06, 0xFF_FFFF, CD | FLAG_SKIP, 3), ccw(0x06, 0, 0, 1)]);
+        let (stretches, end) = walked(&bytes, 4);
+        assert_eq!(stretches[0].storage, None);
+        assert_eq!(stretches[1], stretch(3, 1, 0));
+        assert!(end.is_ok());
+    }
+
+    #[test]
+    fn exact_fit_under_cd_fetches_one_more() {
+        let bytes = chain(&[ccw(0x06, 0, CD, 4), ccw(0x06, 4, 0, 9)]);
+        let (stretches, end) = walked(&bytes, 4);
+        assert_eq!(stretches, [stretch(0, 4, 0)]);
+        let end = end.unwrap();
+        assert_eq!((end.ccw.at, end.count_left, end.bytes_left_over), (8, 9, 0));
+        assert!(walked(&bytes[..8], 3).1.is_ok());
+        assert_eq!(walked(&bytes[..8], 4).1, Err(ProgramCheck::PastTheChain));
+    }
+
+    #[test]
+    fn program_check_leaves_what_was_moved() {
+        let bytes = chain(&[ccw(0x06, 0, CD, 4), ccw(0x06, 597, 0, 4)]);
+        let (stretches, end) = walked(&bytes, 8);
+        assert_eq!(stretches, [stretch(0, 4, 0)]);
+        assert_eq!(end, Err(ProgramCheck::DataRange));
+    }
+
+    #[test]
+    fn read_without_bytes() {
+        let bytes = chain(&[ccw(0x06, 0, CD, 4)]);
+        let (stretches, end) = walked(&bytes, 0);
+        assert_eq!(stretches, []);
+        assert_eq!(end.unwrap().count_left, 4);
+    }
+
+    #[test]
+    fn incorrect_length() {
+        for (flags, count, length, incorrect) in [
+            (0, 4, 4, false),
+            (0, 4, 3, true),
+            (0, 4, 5, true),
+            (SLI, 4, 3, false),
+            (SLI, 4, 5, false),
+            (CD, 4, 3, true),
+            (SLI | CD, 4, 3, true),
+        ] {
+            let bytes = ccw(0x06, 0, flags, count);
+            let end = walked(&bytes, length).1.unwrap();
+            assert_eq!(end.is_incorrect_length(), incorrect);
+        }
+    }
+
+    #[test]
+    fn bytes_of_a_stretch_from_a_place_on() {
+        let bytes = stretch(10, 5, 0);
+        for (place, length) in [(0, 5), (10, 5), (12, 3), (15, 0), (20, 0)] {
+            assert_eq!(bytes.length_from(place), length);
+        }
+    }
+
+    #[test]
+    fn csw_written() {
+        let bytes = chain(&[ccw(0x03, 0, CC, 1); 40]);
+        let mut channel = Channel::new(program(&bytes), 0);
+        channel.fetch(0x0138).unwrap();
+        let status = Status {
+            unit: 0x0E,
+            channel: 0x40,
+            count_left: 0x0203,
+        };
+        assert_eq!(
+            channel.csw(status),
+            [0, 0, 0x01, 0x40, 0x0E, 0x40, 0x02, 0x03]
+        );
+        let check = channel.csw(Status::PROGRAM_CHECK);
+        assert_eq!(check, [0, 0, 0x01, 0x40, 0, 0x20, 0, 0]);
+    }
+}

@@ -401,3 +401,284 @@ fn check_form(command: u8, argument: &[u8], chained_data: bool) -> Result<(), Re
     }
     Ok(())
 }
+
+#[cfg(test)]
+mod tests {
+    use super::*;
+    use crate::simulator::{check_faults, LAST_CYLINDER};
+
+    const FIRST: TrackAddress = TrackAddress {
+        cylinder: 0,
+        head: 0,
+    };
+
+    /// 000/00 with R0, R1 with a key, R2 without data; 000/01 with R0 alone.
+    fn image() -> Vec<u8> {
+        let mut image = Vec::new();
+        encode::put_home_address(&mut image, FIRST);
+        encode::put_record(&mut image, FIRST, 0, &[], &[0xF0; 8]);
+        encode::put_record(&mut image, FIRST, 1, &[0x11, 0x12], &[0xA1, 0xA2, 0xA3]);
+        encode::put_record(&mut image, FIRST, 2, &[], &[]);
+        let second = TrackAddress { head: 1, ..FIRST };
+        encode::put_home_address(&mut image, second);
+        encode::put_record(&mut image, second, 0, &[], &[0xE0; 8]);
+        image
+    }
+
+    /// R1's fault: error displacement 2.
+    fn fault() -> Fault {
+        Fault {
+            track: FIRST,
+            number: 1,
+            error_displacement: 2,
+            pattern: [0x01, 0x02, 0x04],
+        }
+    }
+
+    /// Calls `test` with a new drive over the image.
+    fn with_drive(faults: &[Fault], test: impl FnOnce(Drive)) {
+        let image = image();
+        let mut list = Vec::new();
+        for &fault in faults {
+            encode::put_fault(&mut list, fault);
+        }
+        let (pack, faults) = check_faults(&image, &list, LAST_CYLINDER).unwrap();
+        test(Drive::new(&pack, &faults, LAST_CYLINDER));
+    }
+
+    fn search(drive: &mut Drive, number: u8) -> Result<bool, UnitCheck> {
+        let done = drive.execute(SEARCH_ID_EQUAL, &[0, 0, 0, 0, number], false)?;
+        Ok(matches!(done, Done::Search { equal: true }))
+    }
+
+    fn control(drive: &mut Drive, command: u8, argument: &[u8]) -> Option<UnitCheck> {
+        drive.execute(command, argument, false).err()
+    }
+
+    /// The bytes that a read takes.
+    fn read(drive: &mut Drive, command: u8) -> Result<Vec<u8>, UnitCheck> {
+        let Done::Read(arriving) = drive.execute(command, &[], true)? else {
+            panic!("{command:02X} is a read");
+        };
+        let mut bytes = vec![0; arriving.length()];
+        arriving.copy_to(0, &mut bytes);
+        Ok(bytes)
+    }
+
+    const R1_COUNT: [u8; 8] = [0, 0, 0, 0, 1, 2, 0, 3];
+    const R2_COUNT: [u8; 8] = [0, 0, 0, 0, 2, 0, 0, 0];
+
+    #[test]
+    fn each_read_of_r1() {
+        for (command, expected) in [
+            (READ_DATA, &[0xA1, 0xA2, 0xA3][..]),
+            (READ_KEY_DATA, &[0x11, 0x12, 0xA1, 0xA2, 0xA3]),
+            (READ_COUNT, &R1_COUNT),
+            (
+                READ_COUNT_KEY_DATA,
+                &[0, 0, 0, 0, 1, 2, 0, 3, 0x11, 0x12, 0xA1, 0xA2, 0xA3],
+            ),
+            (READ_HOME_ADDRESS, &[0; 5]),
+        ] {
+            with_drive(&[], |mut drive| {
+                assert_eq!(read(&mut drive, command).unwrap(), expected);
+            });
+        }
+    }
+
+    #[test]
+    fn searches_until_the_index_is_passed_twice() {
+        with_drive(&[], |mut drive| {
+            for _ in 0..6 {
+                assert_eq!(search(&mut drive, 9), Ok(false));
+            }
+            let failed = Err(UnitCheck::NoRecordFound(NotFoundRule::IndexPassedTwice));
+            assert_eq!(search(&mut drive, 9), failed);
+        });
+    }
+
+    #[test]
+    fn count_area_just_passed() {
+        with_drive(&[], |mut drive| {
+            assert_eq!(search(&mut drive, 0), Ok(true));
+            assert_eq!(read(&mut drive, READ_DATA).unwrap(), [0xF0; 8]);
+            assert_eq!(search(&mut drive, 9), Ok(false));
+            assert_eq!(read(&mut drive, READ_DATA).unwrap(), [0xA1, 0xA2, 0xA3]);
+            assert_eq!(read(&mut drive, READ_COUNT).unwrap(), R2_COUNT);
+            assert_eq!(read(&mut drive, READ_DATA).unwrap(), []);
+            assert_eq!(read(&mut drive, READ_COUNT).unwrap(), R1_COUNT);
+            assert_eq!(read(&mut drive, READ_COUNT_KEY_DATA).unwrap(), R2_COUNT);
+        });
+    }
+
+    #[test]
+    fn control_commands_go_to_the_index() {
+        for (command, argument) in [
+            (NO_OPERATION, &[][..]),
+            (SEEK, &[0; 6]),
+            (SET_FILE_MASK, &[0]),
+            (SET_SECTOR, &[0]),
+        ] {
+            with_drive(&[], |mut drive| {
+                assert_eq!(search(&mut drive, 9), Ok(false));
+                assert_eq!(search(&mut drive, 9), Ok(false));
+                assert_eq!(control(&mut drive, command, argument), None);
+                assert_eq!(search(&mut drive, 0), Ok(true));
+            });
+        }
+    }
+
+    #[test]
+    fn data_length_0() {
+        with_drive(&[], |mut drive| {
+            for (command, exception) in [
+                (READ_DATA, false),
+                (READ_DATA, true),
+                (READ_COUNT, false),
+                (READ_COUNT, false),
+                (READ_KEY_DATA, true),
+            ] {
+                let Ok(Done::Read(arriving)) = drive.execute(command, &[], false) else {
+                    panic!("{command:02X} takes a record");
+                };
+                assert_eq!(arriving.is_unit_exception(), exception);
+            }
+        });
+    }
+
+    #[test]
+    fn nothing_found() {
+        let found_nothing = |rule| Err(UnitCheck::NoRecordFound(rule));
+        with_drive(&[], |mut drive| {
+            assert_eq!(control(&mut drive, SEEK, &[0, 0, 0, 0, 0, 1]), None);
+            for command in [READ_DATA, READ_KEY_DATA, READ_COUNT, READ_COUNT_KEY_DATA] {
+                let read = read(&mut drive, command);
+                assert_eq!(read, found_nothing(NotFoundRule::R0Alone));
+            }
+            assert_eq!(
+                read(&mut drive, READ_HOME_ADDRESS).unwrap(),
+                [0, 0, 0, 0, 1]
+            );
+            assert_eq!(control(&mut drive, SEEK, &[0, 0, 0, 0, 0, 2]), None);
+            let nowhere = found_nothing(NotFoundRule::TrackNotInImage);
+            assert_eq!(read(&mut drive, READ_HOME_ADDRESS), nowhere);
+            assert_eq!(read(&mut drive, READ_DATA), nowhere);
+            assert!(search(&mut drive, 0).is_err());
+        });
+    }
+
+    #[test]
+    fn each_reject() {
+        for (command, argument, chained_data, rule) in [
+            (0x00, &[][..], false, RejectRule::OtherCommand),
+            (0x86, &[], false, RejectRule::OtherCommand),
+            (SEEK, &[0; 5], false, RejectRule::WrongCount),
+            (SET_FILE_MASK, &[0; 2], false, RejectRule::WrongCount),
+            (SET_SECTOR, &[0; 2], false, RejectRule::WrongCount),
+            (SEARCH_ID_EQUAL, &[0; 6], false, RejectRule::WrongCount),
+            (NO_OPERATION, &[], true, RejectRule::ChainedData),
+            (SEARCH_ID_EQUAL, &[0; 5], true, RejectRule::ChainedData),
+            (SET_FILE_MASK, &[0x02], false, RejectRule::MaskBits),
+            (SET_SECTOR, &[128], false, RejectRule::Sector),
+            (
+                SEEK,
+                &[0, 0, 1, 0x9B, 0, 0],
+                false,
+                RejectRule::SeekOffThePack,
+            ),
+            (SEEK, &[0, 1, 0, 0, 0, 0], false, RejectRule::SeekNotZero),
+        ] {
+            with_drive(&[], |mut drive| {
+                let done = drive.execute(command, argument, chained_data);
+                assert_eq!(done.err(), Some(UnitCheck::Reject(rule)));
+            });
+        }
+    }
+
+    #[test]
+    fn masks() {
+        with_drive(&[], |mut drive| {
+            assert_eq!(drive.mask(), None);
+            assert_eq!(control(&mut drive, SET_FILE_MASK, &[0x10]), None);
+            assert_eq!(drive.mask(), Some(0x10));
+            let second = Some(UnitCheck::Reject(RejectRule::SecondMask));
+            assert_eq!(control(&mut drive, SET_FILE_MASK, &[0x10]), second);
+            let protected = Some(UnitCheck::FileProtected);
+            assert_eq!(control(&mut drive, SEEK, &[0; 6]), protected);
+            let rejected = Some(UnitCheck::Reject(RejectRule::SeekNotZero));
+            assert_eq!(control(&mut drive, SEEK, &[1, 0, 0, 0, 0, 0]), rejected);
+        });
+    }
+
+    #[test]
+    fn sense_of_the_other_unit_checks() {
+        for (check, byte, value) in [
+            (UnitCheck::Reject(RejectRule::Sector), 0, 0x80),
+            (UnitCheck::NoRecordFound(NotFoundRule::R0Alone), 1, 0x08),
+            (UnitCheck::FileProtected, 1, 0x04),
+        ] {
+            let mut expected = [0; 24];
+            expected[byte] = value;
+            assert_eq!(check.sense(), expected);
+        }
+    }
+
+    #[test]
+    fn sense_of_a_faulted_data_area() {
+        let fault = Fault {
+            track: TrackAddress {
+                cylinder: 0x0102,
+                head: 0x0012,
+            },
+            number: 0xFE,
+            error_displacement: 0x0304,
+            pattern: [5, 6, 7],
+        };
+        let expected = [
+            0x08, 0, 0x40, 0, 0, 0, 0, 0x53, 0x01, 0x02, 0x00, 0x12, 0xFE, 0, 0, 0x00, 0x32, 0xEE,
+            0x03, 0x04, 5, 6, 7, 1,
+        ];
+        assert_eq!(data_check_sense(&fault, 13_038, true), expected);
+        assert_eq!(data_check_sense(&fault, 13_038, false)[23], 0);
+    }
+
+    #[test]
+    fn faulted_data_arrive_changed() {
+        with_drive(&[fault()], |mut drive| {
+            let arrived = read(&mut drive, READ_KEY_DATA).unwrap();
+            assert_eq!(arrived, [0x11, 0x12, 0xA1, 0xA3, 0xA1]);
+        });
+        let data = [0; 5];
+        for (error_displacement, expected) in [
+            (5, [1, 2, 4, 0, 0]),
+            (3, [0, 0, 1, 2, 4]),
+            (2, [0, 0, 0, 1, 2]),
+            (1, [0, 0, 0, 0, 1]),
+        ] {
+            let fault = Fault {
+                error_displacement,
+                ..fault()
+            };
+            assert_eq!(arrived(&data, &fault), expected);
+        }
+    }
+
+    #[test]
+    fn copies_from_any_place() {
+        let arriving = Arriving {
+            front: Cow::Borrowed(&[1, 2, 3]),
+            key: &[],
+            data: Cow::Borrowed(&[4, 5]),
+            data_area: None,
+        };
+        let all = [1, 2, 3, 4, 5];
+        assert_eq!((arriving.length(), arriving.data_start()), (5, 3));
+        for from in 0..=5 {
+            for to in from..=5 {
+                let mut out = vec![0; to - from];
+                arriving.copy_to(from, &mut out);
+                assert_eq!(out, all[from..to]);
+            }
+        }
+    }
+}

@@ -256,3 +256,158 @@ impl Machine<'_> {
         Ok((status, then))
     }
 }
+
+#[cfg(test)]
+mod tests {
+    use super::*;
+    use crate::simulator::{answer, encode, sample, LAST_CYLINDER};
+
+    const SAMPLE: Lent = Lent {
+        chain: &sample::CHAIN,
+        arguments: &sample::ARGUMENTS,
+        image: &sample::IMAGE,
+        faults: &sample::FAULTS,
+    };
+
+    fn area(number: u8, faulted: bool) -> TakenArea {
+        TakenArea {
+            track: TrackAddress {
+                cylinder: 0,
+                head: 1,
+            },
+            number,
+            faulted,
+            stored: 4,
+        }
+    }
+
+    /// The restart of the sample's cut, by action 5A.
+    fn restart_areas() -> (Vec<u8>, [u8; 16]) {
+        let mut program = [
+            encode::ccw(0x07, 0x2000, 0x40, 6),
+            encode::ccw(0x23, 0x2007, 0x40, 1),
+            encode::ccw(0x31, 0x2008, 0x40, 5),
+            encode::ccw(0x08, 0x1010, 0, 0),
+            encode::ccw(0x12, 0, 0x50, 8),
+            encode::ccw(0x08, 0x0020, 0, 0),
+        ]
+        .concat();
+        program.resize(64, 0);
+        let mut arguments = [0; 16];
+        arguments[5] = 1;
+        arguments[11..13].copy_from_slice(&[1, 1]);
+        (program, arguments)
+    }
+
+    #[test]
+    fn sample_is_cut() {
+        let mut storage = [0; 16];
+        let outcome = run(SAMPLE, &mut storage, 4_096, LAST_CYLINDER).unwrap();
+        assert_eq!(outcome.end, End::Cut);
+        assert_eq!(outcome.csw, [0, 0, 0, 0x20, 0x0E, 0, 0, 0]);
+        assert_eq!((outcome.cut, outcome.mask), (Some(0x18), None));
+        assert_eq!(outcome.sense[..3], [0x08, 0, 0x40]);
+        assert_eq!(outcome.taken, [area(1, true)]);
+        assert_eq!(storage[..5], [0xC1, 0xC2, 0xC2, 0xC4, 0]);
+    }
+
+    #[test]
+    fn sample_goes_on_behind_its_restart() {
+        let (program, arguments) = restart_areas();
+        let restart = Restart {
+            program: &program,
+            arguments: &arguments,
+        };
+        let mut storage = [0; 8];
+        let outcome = run_restarted(SAMPLE, restart, &mut storage, LAST_CYLINDER).unwrap();
+        assert_eq!(outcome.end, End::Chain);
+        assert_eq!(outcome.csw, [0, 0, 0, 0x28, 0x0C, 0, 0, 0]);
+        assert_eq!((outcome.cut, outcome.sense), (None, [0; 24]));
+        assert_eq!(outcome.taken, [area(2, false)]);
+        assert_eq!(storage, [0, 0, 0, 0, 0xD1, 0xD2, 0xD3, 0xD4]);
+    }
+
+    #[test]
+    fn refused_and_nothing_changed() {
+        let number = |lent: Lent, limit| {
+            let mut storage = [0xEE; 16];
+            let number = answer(&run(lent, &mut storage, limit, LAST_CYLINDER));
+            assert!(number == 0 || storage == [0xEE; 16]);
+            number
+        };
+        assert_eq!(number(SAMPLE, 4_096), 0);
+        assert_eq!(number(SAMPLE, 0), 1);
+        let torn = &sample::IMAGE[..56];
+        assert_eq!(
+            number(
+                Lent {
+                    image: torn,
+                    ..SAMPLE
+                },
+                1
+            ),
+            2
+        );
+        assert_eq!(
+            number(
+                Lent {
+                    faults: &[0],
+                    ..SAMPLE
+                },
+                1
+            ),
+            3
+        );
+        assert_eq!(
+            number(
+                Lent {
+                    chain: &[],
+                    ..SAMPLE
+                },
+                1
+            ),
+            1
+        );
+    }
+
+    #[test]
+    fn restart_areas_are_asked_for() {
+        let (program, arguments) = restart_areas();
+        for (program, arguments) in [(&program[..63], &arguments[..]), (&program, &[])] {
+            let restart = Restart { program, arguments };
+            let refused = run_restarted(SAMPLE, restart, &mut [0; 8], LAST_CYLINDER);
+            assert_eq!(answer(&refused), 1);
+        }
+    }
+
+    #[test]
+    fn limit_is_the_callers() {
+        let no_faults = Lent {
+            faults: &[],
+            ..SAMPLE
+        };
+        for (limit, end, csw) in [
+            (1, End::Limit, [0, 0, 0, 0x08, 0x0C, 0, 0, 0]),
+            (3, End::Limit, [0, 0, 0, 0x10, 0x0C, 0, 0, 0]),
+            (4, End::Limit, [0, 0, 0, 0x20, 0x0C, 0, 0, 0]),
+            (5, End::Chain, [0, 0, 0, 0x28, 0x0C, 0, 0, 0]),
+        ] {
+            let outcome = run(no_faults, &mut [0; 8], limit, LAST_CYLINDER).unwrap();
+            assert_eq!((outcome.end, outcome.csw), (end, csw));
+        }
+    }
+
+    #[test]
+    fn last_cylinder_is_the_callers() {
+        let chain = encode::ccw(0x07, 0, 0, 6);
+        let lent = Lent {
+            chain: &chain,
+            arguments: &[0, 0, 0, 200, 0, 0],
+            ..SAMPLE
+        };
+        for (last_cylinder, unit) in [(200, 0x0C), (199, 0x0E)] {
+            let outcome = run(lent, &mut [], 1, last_cylinder).unwrap();
+            assert_eq!(outcome.csw[4], unit);
+        }
+    }
+}

@@ -103,3 +103,86 @@ pub fn generated(random: &mut Random, turn: usize) -> (&'static str, GeneratedRu
         }
     }
 }
+
+#[cfg(test)]
+mod tests {
+    use super::*;
+    use crate::simulator::channel::{ProgramCheck, CHANNEL_INCORRECT_LENGTH};
+    use crate::simulator::drive::{NotFoundRule, RejectRule, UnitCheck};
+    use crate::simulator::run::End;
+    use std::collections::BTreeSet;
+
+    const TURNS: usize = 8_000;
+
+    /// The runs of a seed.
+    fn runs(seed: u64) -> impl Iterator<Item = (&'static str, GeneratedRun)> {
+        let mut random = Random::new(seed);
+        (0..TURNS).map(move |turn| generated(&mut random, turn))
+    }
+
+    #[test]
+    fn same_seed_same_runs() {
+        assert!(runs(1).eq(runs(1)));
+        assert!(!runs(1).eq(runs(2)));
+    }
+
+    #[test]
+    fn every_end_is_seen() {
+        let mut seen = BTreeSet::new();
+        for (_, mut run) in runs(1) {
+            if let Ok(outcome) = run.simulated() {
+                let incorrect_length = outcome.csw[5] == CHANNEL_INCORRECT_LENGTH;
+                seen.insert((outcome.end, incorrect_length, run.restart.is_some()));
+            }
+        }
+        let unit_checks = RejectRule::ALL
+            .iter()
+            .map(|&rule| UnitCheck::Reject(rule))
+            .chain(
+                NotFoundRule::ALL
+                    .iter()
+                    .map(|&rule| UnitCheck::NoRecordFound(rule)),
+            )
+            .chain([UnitCheck::FileProtected]);
+        let alone = ProgramCheck::ALL
+            .iter()
+            .map(|&check| End::ProgramCheck(check))
+            .chain(unit_checks.map(End::UnitCheck))
+            .chain([End::Chain, End::UnitException, End::Cut, End::Limit])
+            .map(|end| (end, false));
+        let with_incorrect_length = [End::IncorrectLength, End::UnitException, End::Cut];
+        for (end, incorrect_length) in alone.chain(with_incorrect_length.map(|end| (end, true))) {
+            for restarted in [false, true] {
+                let end = (end, incorrect_length, restarted);
+                assert!(seen.contains(&end), "{end:?}");
+            }
+        }
+    }
+
+    #[test]
+    fn every_refusal_is_seen() {
+        let refusals: BTreeSet<u8> = runs(1)
+            .filter_map(|(_, mut run)| run.simulated().err())
+            .map(Refusal::number)
+            .collect();
+        assert_eq!(refusals, BTreeSet::from([1, 2, 3]));
+    }
+
+    #[test]
+    fn plans_and_restarts_are_not_refused() {
+        for (kind, mut run) in runs(3) {
+            if kind.starts_with("plan") || kind.starts_with("restart") {
+                assert!(run.simulated().is_ok(), "{kind}");
+            }
+        }
+    }
+
+    #[test]
+    fn many_plans_run_to_their_end() {
+        let ends = runs(4)
+            .filter(|(kind, _)| *kind == "plan")
+            .map(|(_, mut run)| run.simulated().unwrap().end);
+        let (ended, other): (Vec<End>, Vec<End>) = ends.partition(|end| *end == End::Chain);
+        assert!(ended.len() * 2 > other.len());
+    }
+}

@@ -286,7 +286,8 @@ impl<'a, 'r> Plan<'a, 'r> {
         if !self.random.once_in(8) {
             match self.taken(command) {
                 Some((_, record)) if record.data.is_empty() => command = READ_COUNT,
-                None if chained != 0 => return self.seek(),
+                None if chained == 0 => return self.put(NO_OPERATION, 0, 0, 1),
+                None => return self.seek(),
                 _ => (),
             }
         }

@@ -178,3 +178,67 @@ fn home_address_restart(id: &[u8], mask: Option<u8>, interrupted: usize) -> Gene
     writer.put_tic(interrupted);
     writer.restart()
 }
+
+#[cfg(test)]
+mod tests {
+    use super::*;
+    use crate::simulator::sample;
+
+    /// The sample's first run with some bytes of its chain set, and its restart.
+    fn restarted(changes: &[(usize, u8)]) -> Option<GeneratedRestart> {
+        let mut run = GeneratedRun {
+            chain: sample::CHAIN.to_vec(),
+            arguments: sample::ARGUMENTS.to_vec(),
+            storage: vec![0; 8],
+            image: sample::IMAGE.to_vec(),
+            faults: sample::FAULTS.to_vec(),
+            limit: 4_096,
+            restart: None,
+        };
+        for &(at, byte) in changes {
+            run.chain[at] = byte;
+        }
+        let outcome = run.simulated().expect("the sample is not refused");
+        action_5(&run.chain, &outcome)
+    }
+
+    const BEFORE_THE_READ_COUNT: [[u8; CCW_LENGTH]; 4] = [
+        [0x07, 0, 0x20, 0x00, 0x40, 0, 0, 6],
+        [0x23, 0, 0x20, 0x07, 0x40, 0, 0, 1],
+        [0x31, 0, 0x20, 0x08, 0x40, 0, 0, 5],
+        [0x08, 0, 0x10, 0x10, 0, 0, 0, 0],
+    ];
+
+    #[test]
+    fn sample_by_5a() {
+        let restart = restarted(&[]).unwrap();
+        let mut program = BEFORE_THE_READ_COUNT.concat();
+        program.extend([0x12, 0, 0, 0, 0x50, 0, 0, 8]);
+        program.extend([0x08, 0, 0, 0x20, 0, 0, 0, 0]);
+        program.resize(64, 0);
+        assert_eq!(restart.program, program);
+        let arguments = [0, 0, 0, 0, 0, 1, 0, 0, 0, 0, 0, 1, 1, 0, 0, 0];
+        assert_eq!(restart.arguments, arguments);
+    }
+
+    #[test]
+    fn next_command_with_bit_3_on_by_5() {
+        let restart = restarted(&[(0x20, READ_COUNT)]).unwrap();
+        let mut program = BEFORE_THE_READ_COUNT.concat();
+        program.extend([0x08, 0, 0, 0x20, 0, 0, 0, 0]);
+        program.resize(64, 0);
+        assert_eq!(restart.program, program);
+    }
+
+    #[test]
+    fn no_restart() {
+        let cut_without_cc = (0x1C, 0);
+        assert!(restarted(&[cut_without_cc]).is_none());
+        let count_left = (0x1F, 5);
+        assert!(restarted(&[count_left]).is_none());
+        let tic_to_a_tic = [(0x20, 0x08), (0x23, 0x10)];
+        assert!(restarted(&tic_to_a_tic).is_none());
+        let not_found = (0x09, 0x0F);
+        assert!(restarted(&[not_found]).is_none());
+    }
+}

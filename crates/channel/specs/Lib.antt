@@ -1,0 +1,3 @@
+pub mod Ccw
+pub mod Store
+pub mod Walk

@@ -1,0 +1,4 @@
+pub mod Drive
+pub mod Command
+pub mod Step
+pub mod Run

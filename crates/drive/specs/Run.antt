@@ -1,0 +1,34 @@
+-- A run of the trial drive: from the chain's first CCW, or from a restart program's.
+use Prim.Native.Nat.{ℕ}
+use mathlib.Core.Bool.{Bool, false}
+use mathlib.Core.Option.{Option}
+use mathlib.Core.List.{List}
+use Rattle.base.specs.Choice.{pick, opt}
+use Rattle.faults.specs.Faults.{Fault}
+use Rattle.machine.specs.Machine.{Result, ended, run, notes}
+use Rattle.channel.specs.Ccw.{Location, Lent, isTic, fetch}
+use Rattle.drive.specs.Drive.{initial}
+use Rattle.drive.specs.Step.{Csw, cswAt, State, End, Cut, noSense, Setting, plan, step, Area, areaIn}
+
+-- "A run starts at cylinder 0, head 0, at the index, with no mask."
+unfoldable pub start : Location → List ℕ → State
+start l st = record { at = l; last = l; left = 0; drive = initial; storage = st }
+
+-- "TIC first" is a program check: the first CCW of a run
+unfoldable pub ticFirst : Lent → Location → Bool
+ticFirst p l = opt (fetch p l) false isTic
+
+-- A run with at most n commands.
+unfoldable pub runFrom : List Fault → Setting → ℕ → Location → List ℕ → Result State End Cut
+runFrom fs w n l st =
+    pick (ticFirst (w .lent) l)
+    (ended (record { csw = cswAt l 0 0x20 0; sense = noSense; mask = initial .mask; storage = st }))
+    (run (step fs w) n (start l st))
+
+-- "answers limit with its last CSW"
+unfoldable pub limitCsw : State → Csw
+limitCsw s = cswAt (s .last) 0x0c 0 (s .left)
+
+-- the data areas that a run takes, in order
+unfoldable pub areasOf : List Fault → Setting → ℕ → State → List Area
+areasOf fs w n s = notes (step fs w) (λ t. areaIn fs (plan w t)) n s
