@@ -3,51 +3,20 @@
 mod cases;
 mod simulator;
 
-use cases::{taken_area, Answer, Case, Ending, Lent, Ran};
+use cases::{taken_area, Answer, Ending, Lent, Ran};
 use simulator::channel::Restart;
 use simulator::run::{self, End, Outcome};
 use simulator::LAST_CYLINDER;
-use std::fs;
-use std::path::{Path, PathBuf};
+use std::path::Path;
 use std::process::ExitCode;
 
 fn main() -> ExitCode {
     let directory = std::env::args().nth(1).expect("a directory of cases");
-    let mut cases = 0;
-    let mut failed = 0;
-    for file in files(Path::new(&directory)) {
-        for case in read(&file) {
-            cases += 1;
-            let differences = case.differences(run_simulator);
-            if !differences.is_empty() {
-                failed += 1;
-                println!("{}, {}", file.display(), case.name);
-            }
-            for difference in differences {
-                println!("  {difference}");
-            }
-        }
+    if cases::all_pass(Path::new(&directory), run_simulator) {
+        ExitCode::SUCCESS
+    } else {
+        ExitCode::FAILURE
     }
-    println!("{cases} cases, {failed} failed");
-    if cases == 0 || failed > 0 {
-        return ExitCode::FAILURE;
-    }
-    ExitCode::SUCCESS
-}
-
-fn files(directory: &Path) -> Vec<PathBuf> {
-    let entries = fs::read_dir(directory).expect("the directory can be read");
-    let mut files: Vec<PathBuf> = entries
-        .map(|entry| entry.expect("the directory can be read").path())
-        .filter(|path| path.extension().is_some_and(|extension| extension == "txt"))
-        .collect();
-    files.sort();
-    files
-}
-
-fn read(file: &Path) -> Vec<Case> {
-    let text = fs::read_to_string(file).expect("the file can be read");
-    cases::reader::read(&text).unwrap_or_else(|error| panic!("{}: {error}", file.display()))
 }
 
 fn run_simulator(lent: &mut Lent) -> Answer {

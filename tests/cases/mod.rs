@@ -5,6 +5,8 @@
 pub mod reader;
 
 use std::fmt::Debug;
+use std::fs;
+use std::path::{Path, PathBuf};
 
 /// The areas and the limit of a run.
 #[derive(Clone, Debug, PartialEq, Eq)]
@@ -60,6 +62,40 @@ pub fn taken_area(cylinder: u16, head: u16, number: u8, faulted: bool, stored: u
 
 /// Runs what is lent and leaves it as the run does.
 pub type Runner = fn(&mut Lent) -> Answer;
+
+/// Runs every case of the directory's `.txt` files, prints what comes out otherwise than they say,
+/// and tells whether nothing did.
+pub fn all_pass(directory: &Path, run: Runner) -> bool {
+    let mut cases = 0;
+    let mut failed = 0;
+    for file in files(directory) {
+        let text = fs::read_to_string(&file).expect("the file can be read");
+        let read = reader::read(&text);
+        for case in read.unwrap_or_else(|error| panic!("{}: {error}", file.display())) {
+            cases += 1;
+            let differences = case.differences(run);
+            if !differences.is_empty() {
+                failed += 1;
+                println!("{}, {}", file.display(), case.name);
+            }
+            for difference in differences {
+                println!("  {difference}");
+            }
+        }
+    }
+    println!("{cases} cases, {failed} failed");
+    cases > 0 && failed == 0
+}
+
+fn files(directory: &Path) -> Vec<PathBuf> {
+    let entries = fs::read_dir(directory).expect("the directory can be read");
+    let mut files: Vec<PathBuf> = entries
+        .map(|entry| entry.expect("the directory can be read").path())
+        .filter(|path| path.extension().is_some_and(|extension| extension == "txt"))
+        .collect();
+    files.sort();
+    files
+}
 
 #[derive(Clone, Debug)]
 pub struct Case {

@@ -13,7 +13,8 @@
 //! - `cut`: address of the first CCW of a read that a faulted data area cut, none where not said.
 //! - `storage-after`: bytes, those lent where not said.
 //! - `taken`: cylinder, head and R of a data area taken, `good` or `faulted`, how many of its
-//!   bytes went to storage; one statement for each in order, or `none`. Not compared where not said.
+//!   bytes went to storage; one statement for each in order, or `none`. Where not said, not
+//!   compared.
 
 use super::{Answer, Case, Ending, Lent, Ran};
 

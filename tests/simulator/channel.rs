@@ -15,6 +15,7 @@ pub const FLAG_PCI: u8 = 0x08;
 /// The flag bits that are 0 outside TIC.
 pub const FLAGS_ZERO: u8 = 0x07;
 
+/// Channel end and device end.
 pub const UNIT_END: u8 = 0x0C;
 pub const UNIT_CHECK: u8 = 0x02;
 pub const UNIT_EXCEPTION: u8 = 0x01;
@@ -144,7 +145,6 @@ impl Status {
         count_left: 0,
     };
 
-    /// Channel end and device end.
     pub fn ended(count_left: usize) -> Status {
         Status {
             unit: UNIT_END,

@@ -1,12 +1,13 @@
 //! Document 01 written a second time, in plain Rust, to be compared with the proved library.
 //!
 //! Decoded values borrow from the lent bytes. Where a call is refused the rule that decided is
-//! named beside the question's number, so that a test can tell the rules of one question apart.
+//! named beside the question's number, so that a test can tell the rules of one question apart;
+//! the rule that ends a run is named beside its CSW and sense.
 
 // Each program that includes the simulator uses a part of it.
 #![allow(dead_code)]
 
-/// An enum of the rules of a question, and the list of them all.
+/// An enum of the rules of a question or a check, and the list of them all.
 macro_rules! rules {
     ($(#[$about:meta])* $name:ident { $($rule:ident),* $(,)? }) => {
         $(#[$about])*

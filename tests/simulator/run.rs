@@ -46,7 +46,7 @@ impl<'a> Lent<'a> {
 /// Why a run ended.
 #[derive(Clone, Copy, Debug, PartialEq, Eq, PartialOrd, Ord)]
 pub enum End {
-    /// The chain did not go on.
+    /// The last command had no CC.
     Chain,
     IncorrectLength,
     /// Data length 0, with incorrect length or without.
@@ -157,13 +157,11 @@ impl Machine<'_> {
         let mut fetched = self.channel.fetch_first();
         let mut begun = 0;
         loop {
-            let (status, then) =
-                fetched
-                    .and_then(|ccw| self.command(ccw))
-                    .unwrap_or_else(|check| {
-                        let end = End::ProgramCheck(check);
-                        (Status::PROGRAM_CHECK, Then::End(end))
-                    });
+            let done = fetched.and_then(|ccw| self.command(ccw));
+            let (status, then) = done.unwrap_or_else(|check| {
+                let end = End::ProgramCheck(check);
+                (Status::PROGRAM_CHECK, Then::End(end))
+            });
             begun += 1;
             match then {
                 Then::End(end) => return self.outcome(end, status),

@@ -8,16 +8,15 @@ use lib.ListN.{length, getD}
 use Rattle.base.specs.Choice.{pick}
 use Rattle.base.specs.Bytes.{be16At, be24At, part}
 use Rattle.base.specs.Bits.{bitOn}
+use Rattle.channel.specs.declared.Ccw.{Ccw}
+use Rattle.channel.specs.declared.Location.{Location}
+use Rattle.channel.specs.declared.Location.the-variants.{Chain, Restart}
+use Rattle.channel.specs.declared.Fetched.{Fetched}
+use Rattle.channel.specs.declared.Fetched.the-variants.{Got, Broken}
 
 -- ---- a CCW
 
 -- "CCW: command, address 3, flags .., ignored byte, count 2"
-pub record Ccw : Type 0 where
-  pub command : ℕ
-  pub address : ℕ
-  pub flags : ℕ
-  pub count : ℕ
-
 unfoldable pub ccwAt : List ℕ → ℕ → Ccw
 ccwAt s a = record { command = getD s a 0; address = be24At s (a + 1); flags = getD s (a + 4) 0; count = be16At s (a + 6) }
 
@@ -44,20 +43,15 @@ formed c = not (eqb (c .count) 0) && eqb (c .flags % 8) 0
 
 -- ---- where CCWs stand
 
--- A CCW's place: in the chain, or in a restart program, counted from that area's front.
-pub data Location : Type 0 where
-  chain : ℕ → Location
-  restart : ℕ → Location
-
 -- "chain (CCWs, addresses from 0000) .. restart program, 64 bytes at 1000"
 unfoldable pub addressOf : Location → ℕ
-addressOf (chain a) = a
-addressOf (restart a) = 0x1000 + a
+addressOf (Chain a) = a
+addressOf (Restart a) = 0x1000 + a
 
 -- the CCW behind
 unfoldable pub next : Location → Location
-next (chain a) = chain (a + 8)
-next (restart a) = restart (a + 8)
+next (Chain a) = Chain (a + 8)
+next (Restart a) = Restart (a + 8)
 
 -- the areas that a run only reads
 pub record Lent : Type 0 where
@@ -71,29 +65,24 @@ unfoldable pub fetchIn : List ℕ → ℕ → Option Ccw
 fetchIn s a = pick (leb (a + 8) (length s) && eqb (a % 8) 0) (some (ccwAt s a)) none
 
 unfoldable pub fetch : Lent → Location → Option Ccw
-fetch p (chain a) = fetchIn (p .chain) a
-fetch p (restart a) = fetchIn (p .program) a
+fetch p (Chain a) = fetchIn (p .chain) a
+fetch p (Restart a) = fetchIn (p .program) a
 
 -- "In the chain a TIC names a CCW of the chain"; one of a restart program names either.
 unfoldable pub target : Location → ℕ → Location
-target (chain a) to = chain to
-target (restart a) to = pick (ltb to 0x1000) (chain to) (restart (to - 0x1000))
+target (Chain a) to = Chain to
+target (Restart a) to = pick (ltb to 0x1000) (Chain to) (Restart (to - 0x1000))
 
 -- ---- the next CCW
 
--- The CCW that comes next, through at most one TIC; or a program check, with the CCW that was fetched last.
-pub data Fetched : Type 0 where
-  got : Location → Ccw → Fetched
-  broken : Location → Fetched
-
 -- behind a TIC: "TIC .. to a TIC" is a program check
 unfoldable pub landed : Location → Location → Option Ccw → Fetched
-landed tic l none = broken tic
-landed tic l (some c) = pick (isTic c) (broken l) (got l c)
+landed tic l none = Broken tic
+landed tic l (some c) = pick (isTic c) (Broken l) (Got l c)
 
 unfoldable pub follow : Lent → Location → Location → Option Ccw → Fetched
-follow p last l none = broken last
-follow p last l (some c) = pick (isTic c) (landed l (target l (c .address)) (fetch p (target l (c .address)))) (got l c)
+follow p last l none = Broken last
+follow p last l (some c) = pick (isTic c) (landed l (target l (c .address)) (fetch p (target l (c .address)))) (Got l c)
 
 -- from the CCW that was fetched last to the one at a place
 unfoldable pub resolve : Lent → Location → Location → Fetched
@@ -103,12 +92,12 @@ resolve p last l = follow p last l (fetch p l)
 
 -- "a control or search command the arguments": their bytes, and the address of the first
 unfoldable pub argumentsAt : Lent → Location → List ℕ
-argumentsAt p (chain a) = p .arguments
-argumentsAt p (restart a) = p .restartArguments
+argumentsAt p (Chain a) = p .arguments
+argumentsAt p (Restart a) = p .restartArguments
 
 unfoldable pub argumentsBase : Location → ℕ
-argumentsBase (chain a) = 0
-argumentsBase (restart a) = 0x2000
+argumentsBase (Chain a) = 0
+argumentsBase (Restart a) = 0x2000
 
 -- "a data range not wholly in its area" is a program check
 unfoldable pub argumentInside : Lent → Location → Ccw → Bool

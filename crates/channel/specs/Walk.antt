@@ -6,7 +6,11 @@ use mathlib.Core.Option.{Option, none, some}
 use mathlib.Core.List.{List, [], _∷_}
 use lib.Dec.{eqb}
 use Rattle.base.specs.Choice.{pick}
-use Rattle.channel.specs.Ccw.{Ccw, Location, Lent, chainsData, suppresses, skips, formed, next, Fetched, got, broken, resolve, storageInside}
+use Rattle.channel.specs.declared.Ccw.{Ccw}
+use Rattle.channel.specs.declared.Location.{Location}
+use Rattle.channel.specs.declared.Fetched.{Fetched}
+use Rattle.channel.specs.declared.Fetched.the-variants.{Got, Broken}
+use Rattle.channel.specs.Ccw.{Lent, chainsData, suppresses, skips, formed, next, resolve, storageInside}
 
 pub data Walk : Type 0 where
   -- the places of the bytes; the current CCW with its location and its count left; whether bytes were left over
@@ -30,8 +34,8 @@ readable size c = formed c && storageInside size c
 -- "When a count runs out under CD the next CCW is fetched immediately; its code matters only if TIC."
 -- `on` goes on with it, its whole count and its address.
 unfoldable pub chained : (Location → Ccw → ℕ → ℕ → Walk) → ℕ → Fetched → Walk
-chained on size (broken l) = stopped [] l
-chained on size (got l c) = pick (readable size c) (on l c (c .count) (c .address)) (stopped [] l)
+chained on size (Broken l) = stopped [] l
+chained on size (Got l c) = pick (readable size c) (on l c (c .count) (c .address)) (stopped [] l)
 
 -- n bytes are still to come, the current CCW has `left` of its count left, and the next byte's address is a.
 unfoldable pub walk : Lent → ℕ → ℕ → Location → Ccw → ℕ → ℕ → Walk

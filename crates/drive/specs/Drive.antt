@@ -1,7 +1,6 @@
 -- The drive's state, and where it stands on a track (document 01, "Drive").
 use Prim.Native.Nat.{ℕ, _+_, _-_}
 use mathlib.Core.Bool.{Bool, true, false, _&&_}
-use mathlib.Core.Option.{Option, none, some}
 use mathlib.Core.List.{List, [], _∷_, _++_}
 use lib.Dec.{eqb, ltb}
 use lib.ListN.{length}
@@ -9,6 +8,8 @@ use Rattle.base.specs.Choice.{pick}
 use Rattle.base.specs.Bytes.{two}
 use Rattle.address.specs.declared.Address.{Address}
 use Rattle.pack.specs.Pack.{Record, Track}
+use Rattle.drive.specs.declared.FileMask.{FileMask}
+use Rattle.drive.specs.declared.FileMask.the-variants.{Unset}
 
 -- A place on a track is a number of records: the record at place 0 is R0.
 pub record Drive : Type 0 where
@@ -20,14 +21,14 @@ pub record Drive : Type 0 where
   -- how often searches passed the index since the last control, read or equal search
   pub passes : ℕ
   -- the file mask, if one was set
-  pub mask : Option ℕ
+  pub mask : FileMask
 
 -- "A run starts at cylinder 0, head 0, at the index, with no mask."
 unfoldable pub initial : Drive
-initial = record { at = record { cylinder = 0; head = 0 }; next = 0; passed = false; passes = 0; mask = none }
+initial = record { at = record { cylinder = 0; head = 0 }; next = 0; passed = false; passes = 0; mask = Unset }
 
 -- "Control commands and 1A put the drive at the index."
-unfoldable pub atIndex : Address → Option ℕ → Drive
+unfoldable pub atIndex : Address → FileMask → Drive
 atIndex a m = record { at = a; next = 0; passed = false; passes = 0; mask = m }
 
 -- behind the count area at a place (`passed`), or behind the whole record

@@ -1,14 +1,15 @@
 -- A run of the trial drive: from the chain's first CCW, or from a restart program's.
 use Prim.Native.Nat.{ℕ}
 use mathlib.Core.Bool.{Bool, false}
-use mathlib.Core.Option.{Option}
 use mathlib.Core.List.{List}
 use Rattle.base.specs.Choice.{pick, opt}
 use Rattle.faults.specs.Faults.{Fault}
 use Rattle.machine.specs.Machine.{Result, ended, run, notes}
-use Rattle.channel.specs.Ccw.{Location, Lent, isTic, fetch}
+use Rattle.channel.specs.declared.Location.{Location}
+use Rattle.channel.specs.declared.Csw.{Csw}
+use Rattle.channel.specs.Ccw.{Lent, isTic, fetch}
 use Rattle.drive.specs.Drive.{initial}
-use Rattle.drive.specs.Step.{Csw, cswAt, State, End, Cut, noSense, Setting, plan, step, Area, areaIn}
+use Rattle.drive.specs.Step.{cswAt, State, End, Cut, noSense, Setting, plan, step, Area, areaIn}
 
 -- "A run starts at cylinder 0, head 0, at the index, with no mask."
 unfoldable pub start : Location → List ℕ → State

@@ -16,21 +16,25 @@ use Rattle.address.specs.Order.{onPack}
 use Rattle.pack.specs.Pack.{Record, Track, trackIn}
 use Rattle.faults.specs.Faults.{Fault, naming}
 use Rattle.machine.specs.Machine.{Outcome, goes, ends, cuts}
-use Rattle.channel.specs.Ccw.{Ccw, Location, Lent, chainsData, chainsCommand, formed, addressOf, next, Fetched, got, broken, resolve, argumentInside, argument}
+use Rattle.channel.specs.declared.Ccw.{Ccw}
+use Rattle.channel.specs.declared.Location.{Location}
+use Rattle.channel.specs.declared.Fetched.{Fetched}
+use Rattle.channel.specs.declared.Fetched.the-variants.{Got, Broken}
+use Rattle.channel.specs.declared.Csw.{Csw}
+use Rattle.channel.specs.Ccw.{Lent, chainsData, chainsCommand, formed, addressOf, next, resolve, argumentInside, argument}
 use Rattle.channel.specs.Store.{store}
 use Rattle.channel.specs.Walk.{Walk, walked, stopped, walk, readable, incorrectLength}
 use Rattle.drive.specs.Drive.{Drive, atIndex, behind, turn, passesIndex, taken, addressBytes, identifier, countArea, homeAddress, noRecord, sameBytes}
-use Rattle.drive.specs.Command.{Read, Command, noOperation, seek, setMask, setSector, searchId, readHome, unlisted, read, commandOf}
+use Rattle.drive.specs.declared.Read.{Read}
+use Rattle.drive.specs.declared.Command.{Command}
+use Rattle.drive.specs.declared.Command.the-variants.{NoOperation, Seek, SetMask, SetSector, SearchId, ReadHome, ReadRecord, Unlisted}
+use Rattle.drive.specs.declared.FileMask.{FileMask}
+use Rattle.drive.specs.declared.FileMask.the-variants.{Unset, Set}
+use Rattle.drive.specs.Command.{commandOf}
 
 -- ---- what a command comes to
 
 -- "CSW: 00, last CCW's address plus 8 (3), unit status .., channel status .., count left 2"
-pub record Csw : Type 0 where
-  pub address : ℕ
-  pub unit : ℕ
-  pub channel : ℕ
-  pub count : ℕ
-
 unfoldable pub cswAt : Location → ℕ → ℕ → ℕ → Csw
 cswAt l unit channel count = record { address = addressOf l + 8; unit = unit; channel = channel; count = count }
 
@@ -46,7 +50,7 @@ pub record State : Type 0 where
 pub record End : Type 0 where
   pub csw : Csw
   pub sense : List ℕ
-  pub mask : Option ℕ
+  pub mask : FileMask
   pub storage : List ℕ
 
 -- A cut by a faulted data area: the record, the displacements and the pattern, whether the count ran out first,
@@ -59,7 +63,7 @@ pub record Cut : Type 0 where
   pub pattern : List ℕ
   pub over : Bool
   pub first : Location
-  pub mask : Option ℕ
+  pub mask : FileMask
   pub csw : Csw
   pub storage : List ℕ
 
@@ -120,9 +124,13 @@ pub data Plan : Type 0 where
 -- ---- control commands
 
 -- "Mask bits 3 and 4 other than 00 make a seek file protected."
-unfoldable pub protects : Option ℕ → Bool
-protects none = false
-protects (some m) = bitOn 3 m || bitOn 4 m
+unfoldable pub protects : FileMask → Bool
+protects Unset = false
+protects (Set m) = bitOn 3 m || bitOn 4 m
+
+unfoldable pub isSet : FileMask → Bool
+isSet Unset = false
+isSet (Set m) = true
 
 -- "mask bits 2, 5 or 6 on" is rejected
 unfoldable pub settable : ℕ → Bool
@@ -157,7 +165,7 @@ module _ (l : Location) (c : Ccw) (d : Drive) (st : List ℕ) where
 
   -- "a second mask, mask bits 2, 5 or 6 on"
   unfoldable pub planMask : ℕ → Plan
-  planMask m = opt (d .mask) (pick (settable m) (done (next l) (atIndex (d .at) (some m))) (refuse rejected)) (λ _. refuse rejected)
+  planMask m = pick (not (isSet (d .mask)) && settable m) (done (next l) (atIndex (d .at) (Set m))) (refuse rejected)
 
   -- "23 sector (1: 0 to 127, or 255)"
   unfoldable pub planSector : ℕ → Plan
@@ -221,14 +229,14 @@ module _ (l : Location) (c : Ccw) (d : Drive) (st : List ℕ) where
 -- the program checks of a CCW that is no TIC: "count 0 or low flag bits on", "a data range not wholly in its area";
 -- "03 and unlisted codes have none"
 unfoldable pub sound : Lent → Location → ℕ → Ccw → Command → Bool
-sound p l size c noOperation = formed c
-sound p l size c unlisted = formed c
-sound p l size c seek = formed c && argumentInside p l c
-sound p l size c setMask = formed c && argumentInside p l c
-sound p l size c setSector = formed c && argumentInside p l c
-sound p l size c searchId = formed c && argumentInside p l c
-sound p l size c readHome = readable size c
-sound p l size c (read k) = readable size c
+sound p l size c NoOperation = formed c
+sound p l size c Unlisted = formed c
+sound p l size c Seek = formed c && argumentInside p l c
+sound p l size c SetMask = formed c && argumentInside p l c
+sound p l size c SetSector = formed c && argumentInside p l c
+sound p l size c SearchId = formed c && argumentInside p l c
+sound p l size c ReadHome = readable size c
+sound p l size c (ReadRecord k) = readable size c
 
 -- What a run is told: the pack's last cylinder, the pack, the areas that it reads.
 pub record Setting : Type 0 where
@@ -237,22 +245,22 @@ pub record Setting : Type 0 where
   pub lent : Lent
 
 unfoldable pub perform : Setting → Location → Ccw → Drive → List ℕ → Command → Plan
-perform w l c d st noOperation = planNoOperation l c d st
-perform w l c d st unlisted = refuse l c d st rejected
-perform w l c d st seek = counted l c d st 6 (planSeek l c d st (w .last) (argument (w .lent) l c))
-perform w l c d st setMask = counted l c d st 1 (planMask l c d st (getD (argument (w .lent) l c) 0 0))
-perform w l c d st setSector = counted l c d st 1 (planSector l c d st (getD (argument (w .lent) l c) 0 0))
-perform w l c d st searchId = counted l c d st 5 (planSearch l c d st (w .pack) (argument (w .lent) l c))
-perform w l c d st readHome = planHome l c d st (w .pack) (w .lent)
-perform w l c d st (read k) = planRead l c d st (w .pack) (w .lent) k
+perform w l c d st NoOperation = planNoOperation l c d st
+perform w l c d st Unlisted = refuse l c d st rejected
+perform w l c d st Seek = counted l c d st 6 (planSeek l c d st (w .last) (argument (w .lent) l c))
+perform w l c d st SetMask = counted l c d st 1 (planMask l c d st (getD (argument (w .lent) l c) 0 0))
+perform w l c d st SetSector = counted l c d st 1 (planSector l c d st (getD (argument (w .lent) l c) 0 0))
+perform w l c d st SearchId = counted l c d st 5 (planSearch l c d st (w .pack) (argument (w .lent) l c))
+perform w l c d st ReadHome = planHome l c d st (w .pack) (w .lent)
+perform w l c d st (ReadRecord k) = planRead l c d st (w .pack) (w .lent) k
 
 unfoldable pub execute : Setting → Location → Ccw → Drive → List ℕ → Plan
 execute w l c d st =
     pick (sound (w .lent) l (length st) c (commandOf (c .command))) (perform w l c d st (commandOf (c .command))) (answer (programCheck l d st))
 
 unfoldable pub dispatch : Setting → Drive → List ℕ → Fetched → Plan
-dispatch w d st (broken l) = answer (programCheck l d st)
-dispatch w d st (got l c) = execute w l c d st
+dispatch w d st (Broken l) = answer (programCheck l d st)
+dispatch w d st (Got l c) = execute w l c d st
 
 unfoldable pub plan : Setting → State → Plan
 plan w s = dispatch w (s .drive) (s .storage) (resolve (w .lent) (s .last) (s .at))

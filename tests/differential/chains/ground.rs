@@ -93,8 +93,9 @@ fn put_track(random: &mut Random, image: &mut Vec<u8>, track: TrackAddress) {
         random.shuffle(&mut numbers);
     }
     numbers.truncate(random.pick(&[0, 1, 2, 3, 3, 4, 5, 6]));
-    let r0 = random.pick(&[8, 8, 8, 0, 3]);
-    put_record(image, track, 0, &[], &random.bytes(r0));
+    let (key, data) = random.pick(&[(0, 8), (0, 8), (0, 8), (0, 0), (2, 3)]);
+    let (key, data) = (random.bytes(key), random.bytes(data));
+    put_record(image, track, 0, &key, &data);
     for number in numbers {
         let key = random.pick(&[0, 0, 0, 0, 1, 2, 5]);
         let data = match random.below(16) {

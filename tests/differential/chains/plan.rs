@@ -1,4 +1,4 @@
-//! Chains that seek, search and read as a program would, most of them to their end.
+//! Chains that seek, search and read as a program would, many of them to their end.
 
 use super::ground::{any_track, Ground};
 use super::GeneratedRun;
@@ -18,7 +18,7 @@ pub fn planned(random: &mut Random) -> GeneratedRun {
     planned_on(random, ground)
 }
 
-/// From here on one more step and an end fit a chain.
+/// Up to here one more step and an end fit a chain.
 const ROOM_LEFT: usize = 1_800;
 
 /// A chain that begins and ends once.

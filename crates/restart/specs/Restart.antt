@@ -1,0 +1,62 @@
+-- Restart programs and their arguments (document 01, "Actions built").
+use Prim.Native.Nat.{ℕ}
+use mathlib.Core.Bool.{Bool, true, false}
+use mathlib.Core.List.{List, [], _∷_, _++_}
+use lib.ListN.{take, replicate}
+use Rattle.base.specs.Bytes.{two, three}
+use Rattle.address.specs.declared.Address.{Address}
+use Rattle.drive.specs.declared.FileMask.{FileMask}
+use Rattle.drive.specs.declared.FileMask.the-variants.{Unset, Set}
+use Rattle.drive.specs.Drive.{addressBytes}
+
+unfoldable pub ccwBytes : (command address flags count : ℕ) → List ℕ
+ccwBytes command address flags count = command ∷ three address ++ flags ∷ 0 ∷ two count
+
+-- "TICs 08 with zeros"
+unfoldable pub ticTo : ℕ → List ℕ
+ticTo to = ccwBytes 0x08 to 0 0
+
+-- "unused bytes 0"
+unfoldable pub padded : ℕ → List ℕ → List ℕ
+padded n s = take n (s ++ replicate n 0)
+
+-- "mask (omitted if none)"
+unfoldable pub maskCcw : FileMask → List ℕ
+maskCcw Unset = []
+maskCcw (Set m) = ccwBytes 0x1f 0x2006 0x40 1
+
+-- "seek .., mask (omitted if none), sector ..", then what finds the place again, then a "TIC to" the chain.
+-- "Flags 40 except as said"; "Arguments: seek at 2000, mask 2006, sector 2007, ID 2008."
+unfoldable pub programOf : FileMask → List ℕ → ℕ → List ℕ
+programOf m finding to =
+    padded 64 (ccwBytes 0x07 0x2000 0x40 6 ++ maskCcw m ++ ccwBytes 0x23 0x2007 0x40 1 ++ finding ++ ticTo to)
+
+-- the address of the CCW behind the sector's
+unfoldable pub searchAddress : FileMask → ℕ
+searchAddress Unset = 0x1010
+searchAddress (Set m) = 0x1018
+
+-- 5: "search ID (sense 8 to 12), TIC to that search"; 5A: "a read count (12, flags 50, count 8) stands before the last TIC"
+unfoldable pub countCcw : Bool → List ℕ
+countCcw true = ccwBytes 0x12 0 0x50 8
+countCcw false = []
+
+unfoldable pub searching : FileMask → Bool → List ℕ
+searching m counts = ccwBytes 0x31 0x2008 0x40 5 ++ ticTo (searchAddress m) ++ countCcw counts
+
+-- the restart program of 5, and with `counts` of 5A
+unfoldable pub searchProgram : FileMask → Bool → ℕ → List ℕ
+searchProgram m counts to = programOf m (searching m counts) to
+
+-- a mask that was not set is 0
+unfoldable pub maskByte : FileMask → ℕ
+maskByte Unset = 0
+maskByte (Set m) = m
+
+-- seek (00 00, cylinder, head), mask, sector, ID (five bytes)
+unfoldable pub argumentsOf : Address → FileMask → ℕ → List ℕ → List ℕ
+argumentsOf a m sector id = padded 16 (0 ∷ 0 ∷ addressBytes a ++ maskByte m ∷ sector ∷ id)
+
+-- the arguments of 5 and 5A: sector 0 stands in a trial drive's sense 13
+unfoldable pub searchArguments : Address → FileMask → ℕ → ℕ → List ℕ
+searchArguments a m sector r = argumentsOf a m sector (addressBytes a ++ r ∷ [])
