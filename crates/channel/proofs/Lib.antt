@@ -1,0 +1,4 @@
+pub mod Stretch
+pub mod Answers
+pub mod Stored
+pub mod Walks

@@ -1,3 +1,4 @@
 pub mod Ccw
 pub mod Store
 pub mod Walk
+pub mod Fetch

@@ -1,4 +1,11 @@
-// Channel command words and where they stand. No knowledge of disks.
+// Channel command words: where they stand, how the next one is found, and the bytes of a read through a data chain.
+// No knowledge of disks.
+ghost use mathlib.Core.Path.{_≡_};
+ghost use Prim.Native.Nat.{_+_, _<_, _≤_};
+ghost use lib.ListN.{length};
+ghost use Rattle.channel.specs.Ccw.{ccwAt, fetchIn, formed, isTic, chainsData, chainsCommand, suppresses, skips, storageInside};
+ghost use Rattle.channel.specs.Walk.{readable, incorrectLength};
+ghost use Rattle.channel.specs.Fetch.{showsLength, slotOf, InBytes, FetchedAt, FetchedFrom, GotInside, Fetches, Resolves};
 
 // A CCW's fields; its ignored byte is left out.
 pub struct Ccw {
@@ -26,4 +33,171 @@ pub struct Csw {
     pub unit: u8,
     pub channel: u8,
     pub count: usize,
+}
+
+// What stands at a CCW address of an area.
+pub enum Slot {
+    Holds(Ccw),
+    Past,
+}
+
+impl Ccw {
+    // Chain data, CD.
+    pub fn chains_data(self) -> bool
+        ensures { λ r. ⌜ r ≡ chainsData self ⌝ }
+    {
+        base::bit(self.flags, 0)
+    }
+
+    // Chain command, CC.
+    pub fn chains_command(self) -> bool
+        ensures { λ r. ⌜ r ≡ chainsCommand self ⌝ }
+    {
+        base::bit(self.flags, 1)
+    }
+
+    // Suppress length indication, SLI.
+    pub fn suppresses(self) -> bool
+        ensures { λ r. ⌜ r ≡ Rattle.channel.specs.Ccw.suppresses self ⌝ }
+    {
+        base::bit(self.flags, 2)
+    }
+
+    pub fn skips(self) -> bool
+        ensures { λ r. ⌜ r ≡ Rattle.channel.specs.Ccw.skips self ⌝ }
+    {
+        base::bit(self.flags, 3)
+    }
+
+    // Transfer in channel, TIC.
+    pub fn is_tic(self) -> bool
+        ensures { λ r. ⌜ r ≡ isTic self ⌝ }
+    {
+        self.command % 16 == 8
+    }
+
+    // Whether count and low flag bits are as they must be outside a TIC.
+    pub fn formed(self) -> bool
+        ensures { λ r. ⌜ r ≡ Rattle.channel.specs.Ccw.formed self ⌝ }
+    {
+        if self.count == 0 {
+            return false;
+        }
+        self.flags & 7 == 0
+    }
+
+    // Whether a read may use the CCW, with storage of `size` bytes.
+    pub fn readable(self, size: usize) -> bool
+        requires { ⌜ InBytes self ⌝ }
+        ensures { λ r. ⌜ r ≡ Rattle.channel.specs.Walk.readable size self ⌝ }
+    {
+        if !self.formed() {
+            return false;
+        }
+        if self.skips() {
+            return true;
+        }
+        self.address + self.count <= size
+    }
+
+    // Whether this CCW shows a wrong length at a read's end.
+    fn shows_length(self) -> bool
+        ensures { λ r. ⌜ r ≡ showsLength self ⌝ }
+    {
+        if !self.suppresses() {
+            return true;
+        }
+        self.chains_data()
+    }
+
+    // Whether a read that ends at this CCW, with `left` of its count left, shows incorrect length.
+    pub fn incorrect_length(self, left: usize, over: bool) -> bool
+        ensures { λ r. ⌜ r ≡ incorrectLength self left over ⌝ }
+    {
+        if over {
+            return self.shows_length();
+        }
+        if left == 0 {
+            return false;
+        }
+        self.shows_length()
+    }
+}
+
+fn ccw_at(s: &[u8], a: usize) -> Ccw
+    requires { ⌜ a + 8 ≤ length (now s) ⌝ }
+    ensures { λ r. ⌜ r ≡ ccwAt (now (s .entry)) a ⌝ }
+    ensures { λ r. ⌜ InBytes r ⌝ }
+{
+    Ccw {
+        command: s[a],
+        address: base::be24(s, a + 1),
+        flags: s[a + 4],
+        count: base::be16(s, a + 6),
+    }
+}
+
+// The CCW at an address of an area, if there is one.
+fn fetch_in(s: &[u8], a: usize) -> Slot
+    ensures { λ r. ⌜ slotOf r ≡ fetchIn (now (s .entry)) a ⌝ }
+    ensures { λ r. ⌜ FetchedAt (length (now (s .entry))) a r ⌝ }
+{
+    if s.len() < 8 {
+        return Slot::Past;
+    }
+    if s.len() - 8 < a {
+        return Slot::Past;
+    }
+    if a % 8 != 0 {
+        return Slot::Past;
+    }
+    Slot::Holds(ccw_at(s, a))
+}
+
+pub fn fetch(chain: &[u8], program: &[u8], l: Location) -> Slot
+    ensures { λ r. ⌜ Fetches (now (chain .entry)) (now (program .entry)) l r ⌝ }
+    ensures { λ r. ⌜ FetchedFrom (now (chain .entry)) (now (program .entry)) l r ⌝ }
+{
+    match l {
+        Location::Chain(a) => fetch_in(chain, a),
+        Location::Restart(a) => fetch_in(program, a),
+    }
+}
+
+// Where a TIC leads.
+fn target(l: Location, to: usize) -> Location
+    ensures { λ r. ⌜ r ≡ Rattle.channel.specs.Ccw.target l to ⌝ }
+{
+    match l {
+        Location::Chain(_) => {
+            return Location::Chain(to);
+        }
+        Location::Restart(_) => {
+            if to < 0x1000 {
+                return Location::Chain(to);
+            }
+            return Location::Restart(to - 0x1000);
+        }
+    }
+}
+
+// The CCW at a place, through at most one TIC; `last` is the one that was fetched before it.
+pub fn resolve(chain: &[u8], program: &[u8], last: Location, l: Location) -> Fetched
+    ensures { λ r. ⌜ Resolves (now (chain .entry)) (now (program .entry)) last l r ⌝ }
+    ensures { λ r. ⌜ GotInside (now (chain .entry)) (now (program .entry)) r ⌝ }
+{
+    let Slot::Holds(c) = fetch(chain, program, l) else {
+        return Fetched::Broken(last);
+    };
+    if !c.is_tic() {
+        return Fetched::Got(l, c);
+    }
+    let to = target(l, c.address);
+    let Slot::Holds(e) = fetch(chain, program, to) else {
+        return Fetched::Broken(l);
+    };
+    if e.is_tic() {
+        return Fetched::Broken(to);
+    }
+    Fetched::Got(to, e)
 }

@@ -1,0 +1,53 @@
+-- What the channel's code answers, in terms of the definitions.
+use Prim.Native.Nat.{ℕ, _+_, _<_, _≤_}
+use mathlib.Core.Path.{_≡_}
+use mathlib.Core.Bool.{Bool, _&&_, not}
+use mathlib.Core.Option.{Option, none, some}
+use mathlib.Core.List.{List}
+use lib.ListN.{length}
+use Rattle.channel.specs.declared.Ccw.{Ccw}
+use Rattle.channel.specs.declared.Location.{Location}
+use Rattle.channel.specs.declared.Location.the-variants.{Chain, Restart}
+use Rattle.channel.specs.declared.Fetched.{Fetched}
+use Rattle.channel.specs.declared.Fetched.the-variants.{Got, Broken}
+use Rattle.channel.specs.declared.Slot.{Slot}
+use Rattle.channel.specs.declared.Slot.the-variants.{Holds, Past}
+use Rattle.channel.specs.Ccw.{Lent, chainsData, suppresses, fetch, resolve}
+
+-- "suppressed by SLI only with CD off"
+unfoldable pub showsLength : Ccw → Bool
+showsLength c = not (suppresses c && not (chainsData c))
+
+abbrev pub slotOf : Slot → Option Ccw
+slotOf Past = none
+slotOf (Holds c) = some c
+
+-- A CCW's address is in three bytes, its count in two.
+pub record InBytes (c : Ccw) : Type 0 where
+  pub address : c .address < 16777216
+  pub count : c .count < 65536
+
+-- a CCW that was fetched at a place of n bytes
+abbrev pub FetchedAt : ℕ → ℕ → Slot → Type 0
+FetchedAt n a Past = Unit {0}
+FetchedAt n a (Holds c) = (a + 8 ≤ n) × InBytes c
+
+-- a place of a CCW that is wholly in its area
+abbrev pub Inside : List ℕ → List ℕ → Location → Type 0
+Inside s r (Chain a) = a + 8 ≤ length s
+Inside s r (Restart a) = a + 8 ≤ length r
+
+abbrev pub FetchedFrom : List ℕ → List ℕ → Location → Slot → Type 0
+FetchedFrom s r l Past = Unit {0}
+FetchedFrom s r l (Holds c) = Inside s r l × InBytes c
+
+abbrev pub GotInside : List ℕ → List ℕ → Fetched → Type 0
+GotInside s r (Broken l) = Unit {0}
+GotInside s r (Got l c) = Inside s r l × InBytes c
+
+-- fetch and resolve read the chain and the restart program alone
+abbrev pub Fetches : List ℕ → List ℕ → Location → Slot → Type 0
+Fetches s r l x = (p : Lent) → p .chain ≡ s → p .program ≡ r → slotOf x ≡ fetch p l
+
+abbrev pub Resolves : List ℕ → List ℕ → Location → Location → Fetched → Type 0
+Resolves s r last l x = (p : Lent) → p .chain ≡ s → p .program ≡ r → x ≡ resolve p last l
