@@ -1,4 +1,5 @@
 -- What storage holds after a read's bytes are stored.
+--   isAt            whether a place is an address
 --   lastAt          the byte of the last position whose place is an address, if there is one
 --   stored-byte     an address holds that byte, else what it held before
 use Prim.Native.Nat.{ℕ, _<_}
@@ -20,7 +21,7 @@ unfoldable pub isAt : ℕ → Option ℕ → Bool
 isAt p none = false
 isAt p (some a) = eqb a p
 
--- A later position goes before an earlier one.
+-- the byte of the last position whose place is the address p, if there is one
 unfoldable pub lastAt : ℕ → List (Option ℕ) → List ℕ → Option ℕ
 lastAt p [] bs = none
 lastAt p (q ∷ ps) [] = none
