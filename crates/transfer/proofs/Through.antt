@@ -1,8 +1,9 @@
 -- A read through its data chain, a CCW at a time.
 --   room, positive                what a CCW that a read may use says of its range and count
 --   nowhere, at-address           what a stretch leaves in storage
---   Rest                          what is left of a read
---   rest-short .. rest-refused    how it ends at a CCW, and how it goes on at the next
+--   rest                          what is left of a read
+--   rest-short .. rest-on         how it ends at a CCW, and how it goes on at the next
+--   same-size, short-at .. on-at  the same by places in the read's bytes
 use Prim.Native.Nat.{ℕ, _+_, _-_, _<_, _≤_}
 use native.Mathlib.Omega.{arith}
 use mathlib.Core.Path.{_≡_, refl, ap, sym, _∙_}
@@ -134,6 +135,11 @@ module _ (p : Lent) (l : Location) (c : Ccw) (bs st st′ : List ℕ) (h : reada
 length-stretched : (c : Ccw) (bs : List ℕ) (n : ℕ) (st : List ℕ) → readable (length st) c ≡ true → n ≤ c .count → n ≤ length bs → length (stretched c bs n st) ≡ length st
 length-stretched c bs n st h k m = ap (λ (s : List ℕ). length s) (stretch-stores c bs n st h k m) ∙ length-store (placesUnder c (c .address) n) bs st
 
+pub same-size : (c : Ccw) (bytes : List ℕ) (from : ℕ) (st st′ : List ℕ) → readable (length st) c ≡ true → c .count ≤ length bytes - from
+    → st′ ≡ stretched c (drop from bytes) (c .count) st → length st′ ≡ length st
+same-size c bytes from st st′ h k e =
+    ap (λ (s : List ℕ). length s) e ∙ length-stretched c (drop from bytes) (c .count) st h (omega arith) (rw (length-drop from bytes) k)
+
 module _ (p : Lent) (l : Location) (c : Ccw) (bytes : List ℕ) (from : ℕ) (st st′ : List ℕ) (h : readable (length st) c ≡ true) where
   abbrev bs : List ℕ
   bs = drop from bytes
@@ -149,8 +155,8 @@ module _ (p : Lent) (l : Location) (c : Ccw) (bytes : List ℕ) (from : ℕ) (st
     enough : c .count ≤ length bs
     enough = rw long k
 
-    pub same-size : length st′ ≡ length st
-    same-size = ap (λ (s : List ℕ). length s) e ∙ length-stretched c bs (c .count) st h (omega arith) enough
+    size : length st′ ≡ length st
+    size = same-size c bytes from st st′ h k e
 
     pub out-at : chainsData c ≡ false → left (Ended l c 0 (ltb (from + c .count) (length bytes))) st′ ≡ rest p (length st) l c bs st
     out-at f = rest-out p l c bs st st′ h enough e f (rw long over)
@@ -171,7 +177,7 @@ module _ (p : Lent) (l : Location) (c : Ccw) (bytes : List ℕ) (from : ℕ) (st
 
       module _ (x : Location) (d : Ccw) (q : Got x d ≡ resolve p l (next l)) where
         pub refused-at : readable (length st′) d ≡ false → left (Checked x) st′ ≡ rest p (length st) l c bs st
-        refused-at g = rest-refused p l c bs st st′ h enough e f x d q (rw same-size at g)
+        refused-at g = rest-refused p l c bs st st′ h enough e f x d q (rw size at g)
 
         pub on-at : readable (length st′) d ≡ true → rest p (length st) l c bs st ≡ rest p (length st′) x d (drop (from + c .count) bytes) st′
-        on-at g = rest-on p l c bs st st′ h enough e f x d q (rw same-size at g) ∙ rw (same-size, drop-drop (c .count) from bytes)
+        on-at g = rest-on p l c bs st st′ h enough e f x d q (rw size at g) ∙ rw (size, drop-drop (c .count) from bytes)

@@ -1,8 +1,6 @@
 -- `transfer::transfer` meets its contract. Invariant: what is left of the read at the CCW that it has come to leaves what the whole read leaves.
 -- Measure: the bytes left; each CCW takes at least one. Assumes nothing.
-use mathlib.Core.List.{[]}
 use borrow.Author.Tests.{not-true, not-false}
-use Rattle.transfer.proofs.Through.{short-at, out-at, broken-at, refused-at, on-at, same-size}
 use Prim.Native.Nat.{ℕ, _+_, _-_, _≤_}
 use mathlib.Core.Path.{_≡_, refl, ap, sym, _∙_}
 use mathlib.Core.Bool.{true}
@@ -11,7 +9,7 @@ use Rattle.channel.specs.Ccw.{Lent}
 use Rattle.channel.specs.Walk.{readable}
 use Rattle.channel.specs.Fetch.{InBytes, Inside}
 use Rattle.transfer.specs.Transfer.{transferred}
-use Rattle.transfer.proofs.Through.{rest, positive, rest-short, rest-out, rest-broken, rest-refused, rest-on}
+use Rattle.transfer.proofs.Through.{rest, positive, same-size, short-at, out-at, broken-at, refused-at, on-at}
 use borrow.Author.Needs.{needs}
 use native.Mathlib.Omega.{arith}
 use Rattle.transfer.proofs.transfer.Statement.{statement}
@@ -163,7 +161,7 @@ loop-again c =
     let q = rw (found .x2 .given .1, c .before .before .before .before .before .before .behind .ensures) at (found .before .before .resolve .ensures .0) in
     let g = rw (found .x2 .given .1) at (found .before .before .resolve .ensures .1) in
     let r = sym (c .before .readable .ensures) ∙ not-false _ (c .if3 .left) in (
-      same-size nothing-lent (at .loop .here) (at .loop .word) m (at .loop .from) s _ (i .4) k e ∙ i .0,
+      same-size (at .loop .word) m (at .loop .from) s _ (i .4) k e ∙ i .0,
       omega arith,
       g .1,
       g .0,
