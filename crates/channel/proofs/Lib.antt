@@ -2,3 +2,4 @@ pub mod Stretch
 pub mod Answers
 pub mod Stored
 pub mod Walks
+pub mod InChain

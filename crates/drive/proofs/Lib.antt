@@ -1,2 +1,4 @@
 pub mod Example
 pub mod Steps
+pub mod Origin
+pub mod Local

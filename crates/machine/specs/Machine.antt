@@ -28,7 +28,7 @@ module _ {S E C : Type 0} (step : S → Outcome S E C) where
     notes zero s = []
     notes (suc n) s =
         elim (step s) [
-          goes t ↦ opt (note s) (notes n t) (λ x. x ∷ notes n t)
+          | goes t ↦ opt (note s) (notes n t) (λ x. x ∷ notes n t)
           | ends e ↦ opt (note s) [] (λ x. x ∷ [])
           | cuts c ↦ opt (note s) [] (λ x. x ∷ [])
         ]

@@ -50,7 +50,14 @@ fn stretch(storage: &mut [u8], c: Ccw, bytes: &[u8], from: usize, n: usize)
 }
 
 // The bytes of a read whose first CCW, which a read may use, is c at l.
-pub fn transfer(chain: &[u8], program: &[u8], l: Location, c: Ccw, bytes: &[u8], storage: &mut [u8]) -> Moved
+pub fn transfer(
+    chain: &[u8],
+    program: &[u8],
+    l: Location,
+    c: Ccw,
+    bytes: &[u8],
+    storage: &mut [u8],
+) -> Moved
     requires { ⌜ Inside (now chain) (now program) l ⌝ }
     requires { ⌜ InBytes c ⌝ }
     requires { ⌜ readable (length (now storage)) c ≡ true ⌝ }
@@ -65,12 +72,22 @@ pub fn transfer(chain: &[u8], program: &[u8], l: Location, c: Ccw, bytes: &[u8],
         let k = word.count;
         if n < k {
             stretch(storage, word, bytes, from, n);
-            return Moved::Ended { at: here, ccw: word, left: k - n, over: false };
+            return Moved::Ended {
+                at: here,
+                ccw: word,
+                left: k - n,
+                over: false,
+            };
         }
         stretch(storage, word, bytes, from, k);
         from += k;
         if !word.chains_data() {
-            return Moved::Ended { at: here, ccw: word, left: 0, over: from < bytes.len() };
+            return Moved::Ended {
+                at: here,
+                ccw: word,
+                left: 0,
+                over: from < bytes.len(),
+            };
         }
         match channel::resolve(chain, program, here, behind(chain, program, here)) {
             Fetched::Broken(x) => {

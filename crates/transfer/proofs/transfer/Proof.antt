@@ -16,7 +16,7 @@ use Rattle.transfer.proofs.transfer.Statement.{statement}
 use Rattle.transfer.proofs.transfer.Tie as tie
 
 abbrev Inv-loop : tie.InvT-loop
-Inv-loop chain program bytes storage₀ here₀ word₀ from₀ storage here word from = 
+Inv-loop chain program bytes storage₀ here₀ word₀ from₀ storage here word from =
     (length storage ≡ length storage₀)
     × (from ≤ length bytes)
     × InBytes word

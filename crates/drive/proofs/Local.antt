@@ -1,0 +1,99 @@
+-- A run that has come to the chain does not see the restart program.
+--   withProgram         a setting with another restart program and its arguments
+--   plan-local          the plan of a command in the chain is the same with it
+--   step-local          so is what the command comes to
+--   run-local           so is the whole run
+use Prim.Native.Nat.{ℕ, zero, suc}
+use mathlib.Core.Path.{_≡_, refl, sym, _∙_}
+use mathlib.Core.List.{List}
+use lib.ListN.{length}
+use Rattle.base.proofs.Choice.{choose, found}
+use Rattle.faults.specs.Faults.{Fault}
+use Rattle.machine.specs.Machine.{goes, ends, cuts, run}
+use Rattle.machine.proofs.Run.{run-goes, run-ends, run-cuts}
+use Rattle.channel.specs.declared.Ccw.{Ccw}
+use Rattle.channel.specs.declared.Location.{Location}
+use Rattle.channel.specs.declared.Fetched.{Fetched}
+use Rattle.channel.specs.declared.Fetched.the-variants.{Got, Broken}
+use Rattle.channel.specs.Ccw.{Lent}
+use Rattle.channel.proofs.InChain.{InChain, FetchedIn, resolve-in, withRestart, resolve-local, walk-local, argument-local, argumentInside-local}
+use Rattle.drive.specs.declared.Command.{Command}
+use Rattle.drive.specs.declared.Command.the-variants.{NoOperation, Seek, SetMask, SetSector, SearchId, ReadHome, ReadRecord, Unlisted}
+use Rattle.drive.specs.Drive.{Drive}
+use Rattle.drive.specs.Command.{commandOf}
+use Rattle.drive.specs.Step as Step
+use Rattle.drive.specs.Step.{State, Answer, DataArea, Setting}
+use Rattle.drive.proofs.Origin.{step-stays}
+
+abbrev pub withProgram : Setting → List ℕ → List ℕ → Setting
+withProgram w program arguments = record { last = w .last; pack = w .pack; lent = withRestart (w .lent) program arguments }
+
+module _ (w : Setting) (program arguments : List ℕ) where
+  abbrev p : Lent
+  p = w .lent
+
+  abbrev q : Lent
+  q = withRestart p program arguments
+
+  sound-local : (l : Location) (size : ℕ) (c : Ccw) (k : Command) → InChain l → Step.sound q l size c k ≡ Step.sound p l size c k
+  unfolding Step.sound
+  sound-local l size c NoOperation h = refl
+  sound-local l size c Unlisted h = refl
+  sound-local l size c Seek h = rw (argumentInside-local p program arguments l c h)
+  sound-local l size c SetMask h = rw (argumentInside-local p program arguments l c h)
+  sound-local l size c SetSector h = rw (argumentInside-local p program arguments l c h)
+  sound-local l size c SearchId h = rw (argumentInside-local p program arguments l c h)
+  sound-local l size c ReadHome h = refl
+  sound-local l size c (ReadRecord k) h = refl
+
+  module _ (l : Location) (c : Ccw) (d : Drive) (st : List ℕ) (h : InChain l) where
+    transfer-local : (bs : List ℕ) (a : DataArea) (e : Drive) → Step.planTransfer l c d st q bs a e ≡ Step.planTransfer l c d st p bs a e
+    unfolding Step.planTransfer
+    transfer-local bs a e = rw (walk-local p program arguments (length st) (length bs) l c (c .count) (c .address) h)
+
+    perform-local : (k : Command) → Step.perform (withProgram w program arguments) l c d st k ≡ Step.perform w l c d st k
+    unfolding Step.perform Step.planHome Step.planRead Step.planPlace Step.planRecord
+    perform-local NoOperation = refl
+    perform-local Unlisted = refl
+    perform-local Seek = rw (argument-local p program arguments l c h)
+    perform-local SetMask = rw (argument-local p program arguments l c h)
+    perform-local SetSector = rw (argument-local p program arguments l c h)
+    perform-local SearchId = rw (argument-local p program arguments l c h)
+    perform-local ReadHome = found _ refl (λ t. transfer-local _ _ _)
+    perform-local (ReadRecord k) = found _ refl (λ t. choose _ (transfer-local _ _ _) refl)
+
+    execute-local : Step.execute (withProgram w program arguments) l c d st ≡ Step.execute w l c d st
+    unfolding Step.execute
+    execute-local = rw (sound-local l (length st) c (commandOf (c .command)) h) (choose _ (perform-local (commandOf (c .command))) refl)
+
+  dispatch-local : (d : Drive) (st : List ℕ) (g : Fetched) → FetchedIn g → Step.dispatch (withProgram w program arguments) d st g ≡ Step.dispatch w d st g
+  unfolding Step.dispatch
+  dispatch-local d st (Broken l) h = refl
+  dispatch-local d st (Got l c) h = execute-local l c d st h
+
+  pub plan-local : (s : State) → InChain (s .at) → Step.plan (withProgram w program arguments) s ≡ Step.plan w s
+  unfolding Step.plan
+  plan-local s h =
+      rw (resolve-local p program arguments (s .last) (s .at) h) (dispatch-local (s .drive) (s .storage) _ (resolve-in p (s .last) (s .at) h))
+
+  pub step-local : (fs : List Fault) (s : State) → InChain (s .at) → Step.step fs (withProgram w program arguments) s ≡ Step.step fs w s
+  unfolding Step.step
+  step-local fs s h = rw (plan-local s h)
+
+pub run-local : (fs : List Fault) (w : Setting) (program arguments : List ℕ) (n : ℕ) (s : State) → InChain (s .at)
+    → run (Step.step fs (withProgram w program arguments)) n s ≡ run (Step.step fs w) n s
+unfolding run
+run-local fs w program arguments zero s h = refl
+run-local fs w program arguments (suc n) s h = by (run-local fs w program arguments n) (Step.step fs w s) refl
+  where
+    other : State → Answer
+    other = Step.step fs (withProgram w program arguments)
+
+    same : other s ≡ Step.step fs w s
+    same = step-local w program arguments fs s h
+
+    by : ((t : State) → InChain (t .at) → run other n t ≡ run (Step.step fs w) n t) → (a : Answer) → Step.step fs w s ≡ a
+        → run other (suc n) s ≡ run (Step.step fs w) (suc n) s
+    by f (goes t) e = run-goes other n s t (same ∙ e) ∙ f t (step-stays fs w s t e h) ∙ sym (run-goes (Step.step fs w) n s t e)
+    by f (ends x) e = run-ends other n s x (same ∙ e) ∙ sym (run-ends (Step.step fs w) n s x e)
+    by f (cuts k) e = run-cuts other n s k (same ∙ e) ∙ sym (run-cuts (Step.step fs w) n s k e)

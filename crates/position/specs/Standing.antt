@@ -1,0 +1,78 @@
+-- The drive's state as the code keeps it: with places in the image's bytes beside the places on the track.
+use Prim.Native.Nat.{ℕ, _-_, _<_, _≤_}
+use mathlib.Core.Path.{_≡_}
+use mathlib.Core.Bool.{Bool, true, false, not}
+use mathlib.Core.Option.{none, some}
+use mathlib.Core.List.{List, [], _∷_}
+use lib.ListN.{length, drop}
+use Rattle.address.specs.declared.Address.{Address}
+use Rattle.pack.specs.declared.Place.{Place}
+use Rattle.pack.specs.Pack.{Record, Track, Decoded, decodeAt, packOf, trackIn}
+use Rattle.pack.specs.Places.{recordFrom, Within}
+use Rattle.channel.specs.declared.Ccw.{Ccw}
+use Rattle.channel.specs.declared.Location.{Location}
+use Rattle.channel.specs.Ccw.{Lent, next}
+use Rattle.drive.specs.declared.Read.{Read}
+use Rattle.drive.specs.Drive as Abstract
+use Rattle.drive.specs.Step.{Plan, notFound, refuse, done, planSearch, planTransfer, bytesOf, areaOf, planRead}
+use Rattle.position.specs.declared.Drive.{Drive}
+use Rattle.position.specs.declared.Examined.{Examined}
+use Rattle.position.specs.declared.Examined.the-variants.{Equal, Unequal, Passed}
+use Rattle.position.specs.declared.Taken.{Taken}
+use Rattle.position.specs.declared.Taken.the-variants.{Takes, Nothing}
+
+-- the state that the definitions speak of
+abbrev pub driveOf : Drive → Abstract.Drive
+driveOf d = record { at = d .at; next = d .next; passed = d .passed; passes = d .passes; mask = d .mask }
+
+-- the records that stand from a place in the image on, up to the next home address
+abbrev pub StandsAt : List ℕ → ℕ → List Record → Type 0
+StandsAt image at xs = (e : Decoded) × (decodeAt image at ≡ some e) × (e .records ≡ xs)
+
+-- The drive is on a track of the image: where its records begin, where the count area that comes next stands, and where the one
+-- that was just passed.
+pub record OnTrack (image : List ℕ) (d : Drive) (t : Track) : Type 0 where
+  pub there : trackIn (packOf image) (d .at) ≡ some t
+  pub first : StandsAt image (d .records) (t .records)
+  pub ahead : StandsAt image (d .here) (drop (d .next) (t .records))
+  pub within : d .next ≤ length (t .records)
+  pub just : d .passed ≡ true → (0 < d .next) × StandsAt image (d .behind) (drop (d .next - 1) (t .records))
+
+-- A drive in an image that decodes.
+pub record Standing (image : List ℕ) (d : Drive) : Type 0 where
+  pub decodes : (e : Decoded) × (decodeAt image 0 ≡ some e)
+  pub low : (d .at .cylinder < 65536) × (d .at .head < 65536)
+  pub on : d .found ≡ true → (t : Track) × OnTrack image d t
+  pub off : d .found ≡ false → trackIn (packOf image) (d .at) ≡ none
+
+-- ---- what the methods answer
+
+-- the plan that a search comes to
+abbrev pub searchPlan : Location → Ccw → Abstract.Drive → List ℕ → Examined → Plan
+searchPlan l c d st (Equal e) = done l c d st (next (next l)) (driveOf e)
+searchPlan l c d st (Unequal e) = done l c d st (next l) (driveOf e)
+searchPlan l c d st Passed = refuse l c d st notFound
+
+-- for every CCW and storage
+abbrev pub Examines : List ℕ → Drive → List ℕ → Examined → Type 0
+Examines image d g r = (l : Location) (c : Ccw) (st : List ℕ) → planSearch l c (driveOf d) st (packOf image) g ≡ searchPlan l c (driveOf d) st r
+
+abbrev pub ExaminedStands : List ℕ → Examined → Type 0
+ExaminedStands image (Equal e) = Standing image e
+ExaminedStands image (Unequal e) = Standing image e
+ExaminedStands image Passed = Unit {0}
+
+-- the plan that a read comes to, of the record at a place in the image
+abbrev pub readPlan : Location → Ccw → Abstract.Drive → List ℕ → Lent → Read → List ℕ → Taken → Plan
+readPlan l c d st p k image (Takes x e) = planTransfer l c d st p (bytesOf k (recordFrom image x)) (areaOf k (recordFrom image x)) (driveOf e)
+readPlan l c d st p k image Nothing = refuse l c d st notFound
+
+-- for every CCW, storage, lent areas and read that takes its record so
+abbrev pub TakesFor : List ℕ → Drive → Bool → Bool → Taken → Type 0
+TakesFor image d just datas r =
+    (l : Location) (c : Ccw) (st : List ℕ) (p : Lent) (k : Read) → k .just ≡ just → k .datas ≡ datas
+    → planRead l c (driveOf d) st (packOf image) p k ≡ readPlan l c (driveOf d) st p k image r
+
+abbrev pub TakenStands : List ℕ → Taken → Type 0
+TakenStands image (Takes x e) = Standing image e × Within image x
+TakenStands image Nothing = Unit {0}
