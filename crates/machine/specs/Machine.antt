@@ -32,3 +32,9 @@ module _ {S E C : Type 0} (step : S → Outcome S E C) where
           | ends e ↦ opt (note s) [] (λ x. x ∷ [])
           | cuts c ↦ opt (note s) [] (λ x. x ∷ [])
         ]
+
+  -- P holds of the state before each command of a run
+  module _ (P : S → Type 0) where
+    unfoldable pub Along : ℕ → S → Type 0
+    Along zero s = Unit {0}
+    Along (suc n) s = P s × elim (step s) as (λ o. Type 0) [ goes t ↦ Along n t | ends e ↦ Unit {0} | cuts c ↦ Unit {0} ]

@@ -1,0 +1,4 @@
+pub mod Table
+pub mod Report
+pub mod Correct
+pub mod Recovery

@@ -1,0 +1,236 @@
+-- Recovery from one report (document 01, "Actions built" and "The questions").
+use Prim.Native.Nat.{ℕ, _+_, _-_}
+use mathlib.Core.Bool.{Bool, true, false, _&&_, _||_, not}
+use mathlib.Core.Option.{Option, none, some}
+use mathlib.Core.List.{List, [], _∷_, _++_}
+use lib.Dec.{eqb, ltb, leb}
+use lib.ListN.{length, getD}
+use Rattle.base.specs.Choice.{pick, opt}
+use Rattle.base.specs.Bytes.{be16At, be24At, part}
+use Rattle.base.specs.Bits.{bitOn}
+use Rattle.questions.specs.declared.Question.{Question}
+use Rattle.questions.specs.declared.Question.the-variants as Question
+use Rattle.address.specs.declared.Address.{Address}
+use Rattle.address.specs.declared.Extent.{Extent}
+use Rattle.address.specs.Order.{onPack}
+use Rattle.address.specs.Within.{within}
+use Rattle.channel.specs.declared.Ccw.{Ccw}
+use Rattle.channel.specs.declared.Location.{Location}
+use Rattle.channel.specs.declared.Location.the-variants.{Chain, Restart}
+use Rattle.channel.specs.declared.Fetched.{Fetched}
+use Rattle.channel.specs.declared.Fetched.the-variants.{Got, Broken}
+use Rattle.channel.specs.declared.Csw.{Csw}
+use Rattle.channel.specs.Ccw.{Lent, chainsCommand, isTic, addressOf, next, fetchIn, resolve}
+use Rattle.channel.specs.Walk.{Walk, walked, stopped, walk, readable, incorrectLength}
+use Rattle.drive.specs.declared.Command.{Command}
+use Rattle.drive.specs.declared.Command.the-variants.{NoOperation, Seek, SetMask, SetSector, SearchId, ReadHome, ReadRecord, Unlisted}
+use Rattle.drive.specs.declared.FileMask.{FileMask}
+use Rattle.drive.specs.declared.FileMask.the-variants.{Unset, Set}
+use Rattle.drive.specs.Command.{commandOf}
+use Rattle.drive.specs.Step.{sought, spread}
+use Rattle.restart.specs.Restart.{ccwBytes, programOf, searchProgram, argumentsOf, searchArguments}
+use Rattle.recovery.specs.Table.{Row, actionFor}
+use Rattle.recovery.specs.Report.{Report}
+use Rattle.recovery.specs.Correct.{corrected}
+
+-- Which restart was built.
+pub data Kind : Type 0 where
+  five fiveA eight ten tenA : Kind
+
+-- What recovery answers. Areas that an answer does not name keep their bytes.
+pub data Recovery : Type 0 where
+  refused : Question → Recovery
+  -- no recovery; the seek must not be made; the chain is to be run again
+  actionOne actionTwo repeats : Recovery
+  -- storage as corrected, and no more
+  correctedOnly : List ℕ → Recovery
+  -- the CSW less unit check, and storage as corrected
+  finished : Csw → List ℕ → Recovery
+  -- a restart program with its arguments, and storage, corrected by action 5
+  restarts : Kind → List ℕ → List ℕ → List ℕ → Recovery
+
+-- What recovery is told besides the report: the last cylinder, the error table, the chain, the extent.
+pub record Given : Type 0 where
+  pub last : ℕ
+  pub rows : List Row
+  pub chain : List ℕ
+  pub extent : Extent
+
+-- the chain alone, as the areas of a walk
+unfoldable pub onlyChain : List ℕ → Lent
+onlyChain s = record { chain = s; arguments = []; program = []; restartArguments = [] }
+
+-- "In 5, 8, 10 and 10A, a restart whose seek lies off the pack or outside the extent is not built: the answer is action 2, storage untouched."
+unfoldable pub seekAllowed : Given → Address → Bool
+seekAllowed g a = onPack (g .last) a && within (g .extent) a
+
+-- "a next CCW (not TIC to TIC)": the user's next non-TIC CCW behind one of the chain
+unfoldable pub onNext : {A : Type 0} → Fetched → A → (ℕ → Ccw → A) → A
+onNext (Broken l) y f = y
+onNext (Got (Restart a) c) y f = y
+onNext (Got (Chain a) c) y f = f a c
+
+-- "tag 12 a 06, 0E or 1E": a command that reads a data area
+unfoldable pub readsData : Command → Bool
+readsData NoOperation = false
+readsData Seek = false
+readsData SetMask = false
+readsData SetSector = false
+readsData SearchId = false
+readsData ReadHome = false
+readsData Unlisted = false
+readsData (ReadRecord k) = k .datas
+
+-- "mask bit 7 (PCI fetch mode) on"
+unfoldable pub fetchMode : FileMask → Bool
+fetchMode Unset = false
+fetchMode (Set m) = bitOn 7 m
+
+-- "incorrect length or no CC, finished with the CSW less unit check"
+unfoldable pub lessUnitCheck : Csw → Csw
+lessUnitCheck w = record { address = w .address; unit = w .unit - pick (bitOn 6 (w .unit)) 2 0; channel = w .channel; count = w .count }
+
+-- two tests that came out alike
+unfoldable pub alike : Bool → Bool → Bool
+alike true b = b
+alike false b = not b
+
+-- ---- tracks and seeks of 8, 10 and 10A
+
+-- "the argument's track plus 1 (head 18 carries)"
+unfoldable pub nextTrack : Address → Address
+nextTrack a = pick (eqb (a .head) 18) (record { cylinder = a .cylinder + 1; head = 0 }) (record { cylinder = a .cylinder; head = a .head + 1 })
+
+unfoldable pub isSeek : Command → Bool
+isSeek Seek = true
+isSeek NoOperation = false
+isSeek SetMask = false
+isSeek SetSector = false
+isSeek SearchId = false
+isSeek ReadHome = false
+isSeek Unlisted = false
+isSeek (ReadRecord k) = false
+
+module _ (g : Given) (r : Report) (st : List ℕ) where
+  -- ---- action 5
+
+  -- "sense 15 to 17 restart displacement, 18 and 19 error displacement"
+  unfoldable pub restartDisplacement : ℕ
+  restartDisplacement = be24At (r .sense) 15
+
+  unfoldable pub errorDisplacement : ℕ
+  errorDisplacement = be16At (r .sense) 18
+
+  -- "error displacement not 0, restart displacement at most 13,038 and not below it, sector under 128"
+  unfoldable pub sensible : Bool
+  sensible =
+      not (eqb errorDisplacement 0) && leb restartDisplacement 13038 && leb errorDisplacement restartDisplacement && ltb (getD (r .sense) 13 0) 128
+
+  -- the walk of the restart displacement's bytes from the read's first CCW, which is c
+  unfoldable pub rewalk : Ccw → Walk
+  rewalk c =
+      pick (readable (length st) c)
+      (walk (onlyChain (g .chain)) (length st) restartDisplacement (Chain (r .first)) c (c .count) (c .address))
+      (stopped [] (Chain (r .first)))
+
+  -- "that ends at the CSW's CCW, count and incorrect length"
+  unfoldable pub agrees : Location → ℕ → Bool → Bool
+  agrees l left wrong =
+      eqb (r .csw .address) (addressOf l + 8) && eqb (r .csw .count) left && alike (bitOn 1 (r .csw .channel)) wrong
+
+  -- "Pattern byte i below the error displacement belongs to byte restart minus error displacement plus i of the read."
+  unfoldable pub correction : List (Option ℕ) → List ℕ
+  correction ps = corrected ps (spread restartDisplacement (restartDisplacement - errorDisplacement) (part (r .sense) 20 23)) st
+
+  -- the track of "sense 8 to 11"
+  unfoldable pub cutTrack : Address
+  cutTrack = record { cylinder = be16At (r .sense) 8; head = be16At (r .sense) 10 }
+
+  -- "seek (00 00, sense 8 to 11), mask .., sector from sense 13, search ID (sense 8 to 12), TIC to that search, then TIC to the user's
+  -- next non-TIC CCW. If that CCW's command has bit 3 off (5A), a read count .. stands before the last TIC."
+  unfoldable pub searchRestart : List ℕ → ℕ → Ccw → Recovery
+  searchRestart storage to c =
+      restarts (pick (bitOn 3 (c .command)) five fiveA)
+      (searchProgram (r .mask) (not (bitOn 3 (c .command))) to)
+      (searchArguments cutTrack (r .mask) (getD (r .sense) 13 0) (getD (r .sense) 12 0))
+      storage
+
+  -- "Then: mask bit 7 on, corrected only; incorrect length or no CC, finished ..; else restart"
+  unfoldable pub afterWalk : List (Option ℕ) → Location → Ccw → Bool → Recovery
+  afterWalk ps l c wrong =
+      pick (fetchMode (r .mask)) (correctedOnly (correction ps))
+      (pick (wrong || not (chainsCommand c)) (finished (lessUnitCheck (r .csw)) (correction ps))
+      (onNext (resolve (onlyChain (g .chain)) l (next l)) (refused Question.Agreement)
+      (λ to d. pick (seekAllowed g cutTrack) (searchRestart (correction ps) to d) actionTwo)))
+
+  unfoldable pub walkedTo : Walk → Recovery
+  walkedTo (stopped ps l) = refused Question.Agreement
+  walkedTo (walked ps l c left over) =
+      pick (agrees l left (incorrectLength c left over)) (afterWalk ps l c (incorrectLength c left over)) (refused Question.Agreement)
+
+  -- "For 5: is sense 7 = 53?", then "Do report and chain agree"
+  unfoldable pub actionFive : Recovery
+  actionFive =
+      pick (eqb (getD (r .sense) 7 0) 0x53)
+      (opt (fetchIn (g .chain) (r .first)) (refused Question.Agreement)
+      (λ c. pick (readsData (commandOf (c .command)) && sensible) (walkedTo (rewalk c)) (refused Question.Agreement)))
+      (refused Question.Format)
+
+  -- ---- actions 8, 10 and 10A
+
+  -- "mask; sector 0; 1A (flags 50, count 5); TIC to" a CCW of the chain
+  unfoldable pub homeRestart : Kind → Address → ℕ → Recovery
+  homeRestart k a to =
+      pick (seekAllowed g a)
+      (restarts k (programOf (r .mask) (ccwBytes 0x1a 0 0x50 5) to) (argumentsOf a (r .mask) 0 []) st)
+      actionTwo
+
+  -- "The interrupted CCW is the one 8 below the CSW's address": "the interrupted CCW in the chain and no TIC"
+  unfoldable pub interrupted : Option Ccw
+  interrupted = pick (leb 8 (r .csw .address)) (opt (fetchIn (g .chain) (r .csw .address - 8)) none (λ c. pick (isTic c) none (some c))) none
+
+  -- "tag 14 present with first two bytes 0, cylinder and head on the pack"
+  unfoldable pub userTrack : Option Address
+  userTrack = opt (r .seek) none (λ s. pick (eqb (be16At s 0) 0 && onPack (g .last) (sought s)) (some (sought s)) none)
+
+  -- with both, or 9
+  unfoldable pub withTrack : (Address → Ccw → Recovery) → Recovery
+  withTrack f = opt userTrack (refused Question.Agreement) (λ a. opt interrupted (refused Question.Agreement) (f a))
+
+  -- "Seek argument with cylinder plus 1, head 0; .. TIC to the interrupted CCW"
+  unfoldable pub actionEight : Recovery
+  actionEight = withTrack (λ a c. homeRestart eight (record { cylinder = a .cylinder + 1; head = 0 }) (r .csw .address - 8))
+
+  -- "If that CCW is a seek: the same with the user's argument, TIC to the next non-TIC CCW. Otherwise 10A: the argument's track plus 1
+  -- .., TIC to the interrupted CCW."; "if it is a seek in 10, CC on and a next CCW (not TIC to TIC)"
+  unfoldable pub actionTen : Recovery
+  actionTen =
+      withTrack
+      (λ a c.
+      pick (isSeek (commandOf (c .command)))
+      (pick (chainsCommand c)
+      (onNext (resolve (onlyChain (g .chain)) (Chain (r .csw .address - 8)) (Chain (r .csw .address))) (refused Question.Agreement) (λ to d. homeRestart ten a to))
+      (refused Question.Agreement))
+      (homeRestart tenA (nextTrack a) (r .csw .address - 8)))
+
+  -- ---- the action
+
+  -- "3 repeats if tries are 0, 4 if under 10, else 1."
+  unfoldable pub tried : ℕ → Recovery
+  tried limit = pick (ltb (r .tries) limit) repeats actionOne
+
+  -- question 7: "Is the action other than 6, 6A, 7, 9, 11?"
+  unfoldable pub act : ℕ → Recovery
+  act k =
+      pick (eqb k 1) actionOne
+      (pick (eqb k 2) actionTwo
+      (pick (eqb k 3) (tried 1)
+      (pick (eqb k 4) (tried 10)
+      (pick (eqb k 5) actionFive
+      (pick (eqb k 8) actionEight
+      (pick (eqb k 10) actionTen
+      (refused Question.Action)))))))
+
+  -- question 6: "Does a row match?"
+  unfoldable pub recover : Recovery
+  recover = opt (actionFor (g .rows) (r .sense)) (refused Question.Row) act
