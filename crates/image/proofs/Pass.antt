@@ -7,7 +7,7 @@ use mathlib.Core.Option.{Option, none, some}
 use mathlib.Core.List.{List, [], _∷_}
 use lib.Dec.{eqb, leb}
 use lib.ListN.{length}
-use borrow.Author.Tests.{eq-eqb, ne-eqb}
+use borrow.Author.Tests.{eq-eqb, ne-eqb, le-leb}
 use Rattle.base.specs.Choice.{pick, opt}
 use Rattle.base.specs.Bytes.{part}
 use Rattle.base.proofs.Choice.{split, found, found-if, opt-opt, opt-const}
@@ -27,13 +27,17 @@ use Rattle.image.specs.declared.Previous.the-variants.{Nothing, Behind}
 use Rattle.image.specs.Image.{soundRecord, member, zeroFirst, soundRecords, soundTrack, follows, soundTracks, noRecords, wellFormedFrom, wellFormed}
 use Rattle.image.specs.Pass.{fitsIn, soundInside}
 
-sound-record : (s : List ℕ) (at : ℕ) (a : Address) (p : Place) → Lies s at p → soundRecord a (recordFrom s p) ≡ fitsIn a p
+and-true : (b : Bool) → (b && true) ≡ b
+and-true true = refl
+and-true false = refl
+
+sound-record : (s : List ℕ) (at : ℕ) (a : Address) (p : Place) → Lies s at p → p .r < 256 → soundRecord a (recordFrom s p) ≡ fitsIn a p
 unfolding soundRecord fitsIn recordFrom
-sound-record s at a p l =
+sound-record s at a p l b =
     let i = l .inside in
     let o = l .in-order in
     let n : p .body - p .key + (p .next - p .body) ≡ p .next - p .key = omega arith in
-    rw (length-part s (p .key) (p .body) (omega arith), length-part s (p .body) (p .next) i, n)
+    rw (length-part s (p .key) (p .body) (omega arith), length-part s (p .body) (p .next) i, n, le-leb (p .r) 255 (omega arith), and-true (same (p .at) a))
 
 module _ (last : ℕ) (a : Address) (seen s : List ℕ) (at : ℕ) where
   -- ---- no record: the track ends
@@ -42,7 +46,7 @@ module _ (last : ℕ) (a : Address) (seen s : List ℕ) (at : ℕ) where
   inside-end e = found-if (decodeAt s at) refl (λ d h. rw (no-record s at d h e))
 
   -- ---- a record
-  module _ (p : Place) (e : recordAt s at ≡ Located p) where
+  module _ (p : Place) (e : recordAt s at ≡ Located p) (small : p .r < 256) where
     inside : Decoded → Bool
     inside d = soundRecords a seen (recordFrom s p ∷ d .records) && soundTracks last (Behind a) (d .tracks)
 
@@ -57,15 +61,15 @@ module _ (last : ℕ) (a : Address) (seen s : List ℕ) (at : ℕ) where
 
     pub inside-unfit : fitsIn a p ≡ false → soundInside last a seen s at ≡ false
     unfolding inside soundRecords
-    inside-unfit f = inside-record ∙ opt-const (decodeAt s (p .next)) (λ d _. rw (sound-record s at a p (record-bounds s at p e), f))
+    inside-unfit f = inside-record ∙ opt-const (decodeAt s (p .next)) (λ d _. rw (sound-record s at a p (record-bounds s at p e) small, f))
 
     pub inside-again : fitsIn a p ≡ true → member (p .r) seen ≡ true → soundInside last a seen s at ≡ false
     unfolding inside soundRecords recordFrom
-    inside-again f g = inside-record ∙ opt-const (decodeAt s (p .next)) (λ d _. rw (sound-record s at a p (record-bounds s at p e), f, g))
+    inside-again f g = inside-record ∙ opt-const (decodeAt s (p .next)) (λ d _. rw (sound-record s at a p (record-bounds s at p e) small, f, g))
 
     pub inside-on : fitsIn a p ≡ true → member (p .r) seen ≡ false → soundInside last a seen s at ≡ soundInside last a (p .r ∷ seen) s (p .next)
     unfolding inside soundRecords soundInside recordFrom
-    inside-on f g = inside-record ∙ found (decodeAt s (p .next)) refl (λ d. rw (sound-record s at a p (record-bounds s at p e), f, g))
+    inside-on f g = inside-record ∙ found (decodeAt s (p .next)) refl (λ d. rw (sound-record s at a p (record-bounds s at p e) small, f, g))
 
 -- ---- a track
 
@@ -120,11 +124,11 @@ module _ (last : ℕ) (b : Previous) (s : List ℕ) (at : ℕ) where
             track-zero = track-led ∙ found-if (decodeAt s n) refl (λ d h. rw (f, g, first-is d h, eq-eqb (p .r) 0 z))
 
             pub track-unfit : fitsIn a p ≡ false → wellFormedFrom last b s at ≡ false
-            track-unfit q = track-zero ∙ inside-unfit last a [] s n p r q
+            track-unfit q = track-zero ∙ inside-unfit last a [] s n p r (rw z (omega arith)) q
 
             pub track-on : fitsIn a p ≡ true → wellFormedFrom last b s at ≡ soundInside last a (0 ∷ []) s (p .next)
             unfolding member
-            track-on q = track-zero ∙ inside-on last a [] s n p r q refl ∙ ap (λ k. soundInside last a (k ∷ []) s (p .next)) z
+            track-on q = track-zero ∙ inside-on last a [] s n p r (rw z (omega arith)) q refl ∙ ap (λ k. soundInside last a (k ∷ []) s (p .next)) z
 
 pub all-sound : (last : ℕ) (b : Previous) (s : List ℕ) (at : ℕ) → length s ≤ at → wellFormedFrom last b s at ≡ true
 unfolding wellFormedFrom opt noRecords soundTracks

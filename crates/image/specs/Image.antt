@@ -19,9 +19,9 @@ use Rattle.image.specs.declared.Previous.the-variants.{Nothing, Behind}
 
 -- ---- one record
 
--- "cylinder and head equal the home address; key plus data at most 13,030"
+-- "cylinder and head equal the home address; key plus data at most 13,030"; R is at most 255
 unfoldable pub soundRecord : Address → Record → Bool
-soundRecord a x = same (x .at) a && leb (length (x .key) + length (x .body)) 13030
+soundRecord a x = same (x .at) a && leb (x .r) 255 && leb (length (x .key) + length (x .body)) 13030
 
 -- ---- the records of one track
 

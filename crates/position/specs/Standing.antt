@@ -29,21 +29,28 @@ driveOf d = record { at = d .at; next = d .next; passed = d .passed; passes = d 
 abbrev pub StandsAt : List ℕ → ℕ → List Record → Type 0
 StandsAt image at xs = (e : Decoded) × (decodeAt image at ≡ some e) × (e .records ≡ xs)
 
+-- An image that decodes, with a record on every track. A well formed image is one (`sound` in proofs/Image).
+pub record Sound (image : List ℕ) : Type 0 where
+  pub decodes : (e : Decoded) × (decodeAt image 0 ≡ some e)
+  pub begun : (a : Address) (t : Track) → trackIn (packOf image) a ≡ some t → 0 < length (t .records)
+
 -- The drive is on a track of the image: where its records begin, where the count area that comes next stands, and where the one
--- that was just passed.
+-- that was just passed. As many bytes as records were passed, so that places can be counted.
 pub record OnTrack (image : List ℕ) (d : Drive) (t : Track) : Type 0 where
   pub there : trackIn (packOf image) (d .at) ≡ some t
   pub first : StandsAt image (d .records) (t .records)
   pub ahead : StandsAt image (d .here) (drop (d .next) (t .records))
   pub within : d .next ≤ length (t .records)
+  pub near : d .next ≤ d .here
   pub just : d .passed ≡ true → (0 < d .next) × StandsAt image (d .behind) (drop (d .next - 1) (t .records))
 
--- A drive in an image that decodes.
+-- A drive in a sound image.
 pub record Standing (image : List ℕ) (d : Drive) : Type 0 where
-  pub decodes : (e : Decoded) × (decodeAt image 0 ≡ some e)
+  pub sound : Sound image
   pub low : (d .at .cylinder < 65536) × (d .at .head < 65536)
   pub on : d .found ≡ true → (t : Track) × OnTrack image d t
   pub off : d .found ≡ false → trackIn (packOf image) (d .at) ≡ none
+  pub few : d .passes ≤ 1
 
 -- ---- what the methods answer
 

@@ -6,13 +6,10 @@ use pack::Place;
 use pack::RecordAt;
 use pack::TrackAt;
 ghost use mathlib.Core.Path.{_≡_};
-ghost use mathlib.Core.List.{[], _∷_};
-ghost use mathlib.Core.Option.{some};
 ghost use Prim.Native.Nat.{_<_};
-ghost use Rattle.pack.specs.Pack.{Decoded, decodeAt};
 ghost use Rattle.drive.specs.declared.FileMask.the-variants as Masks;
 ghost use Rattle.drive.specs.Drive as Abstract;
-ghost use Rattle.position.specs.Standing.{driveOf, Standing, Examines, ExaminedStands, TakesFor, TakenStands};
+ghost use Rattle.position.specs.Standing.{driveOf, Sound, Standing};
 
 // `found` says whether the image has the track. Then its records begin at `records`, the count area that comes next has place
 // `next` on the track and stands at `here`, and the one that was just passed stands at `behind`.
@@ -44,7 +41,7 @@ pub enum Taken {
 impl Drive {
     // At the index of a track.
     fn at_track(image: &[u8], a: Address, mask: FileMask) -> Drive
-        requires { ⌜ ((e : Decoded) × (decodeAt (now image) 0 ≡ some e)) ⌝ }
+        requires { ⌜ Sound (now image) ⌝ }
         requires { ⌜ (a .cylinder < 65536) × (a .head < 65536) ⌝ }
         ensures { λ r. ⌜ driveOf r ≡ Abstract.atIndex a mask ⌝ }
         ensures { λ r. ⌜ Standing (now (image .entry)) r ⌝ }
@@ -77,7 +74,7 @@ impl Drive {
 
     // As a run starts.
     pub fn initial(image: &[u8]) -> Drive
-        requires { ⌜ ((e : Decoded) × (decodeAt (now image) 0 ≡ some e)) ⌝ }
+        requires { ⌜ Sound (now image) ⌝ }
         ensures { λ r. ⌜ driveOf r ≡ Abstract.initial ⌝ }
         ensures { λ r. ⌜ Standing (now (image .entry)) r ⌝ }
     {

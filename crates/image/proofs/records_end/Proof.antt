@@ -57,7 +57,8 @@ returns-2 c =
     let found = c .before .before .before in
     let call = found .before .before in
     let i = call .before .loop .inv in
-    λ last. i .2 last ∙ inside-unfit last _ _ _ _ _ (sym (call .record-at .ensures .0) ∙ found .p .given .1) (sym (c .before .fits2 .ensures) ∙ not-true _ (c .if1 .taken))
+    let b = rw (found .p .given .1) at (call .record-at .ensures .1) in
+    λ last. i .2 last ∙ inside-unfit last _ _ _ _ _ (sym (call .record-at .ensures .0) ∙ found .p .given .1) (b .number) (sym (c .before .fits2 .ensures) ∙ not-true _ (c .if1 .taken))
 
 array-read-if2 : tie.Need-array-read-if2 Inv-loop μ-loop
 array-read-if2 c =
@@ -72,7 +73,7 @@ returns-3 c =
     let call = found .before .before in
     let i = call .before .loop .inv in
     let b = rw (found .p .given .1) at (call .record-at .ensures .1) in
-    λ last. i .2 last ∙ inside-again last _ _ _ _ _ (sym (call .record-at .ensures .0) ∙ found .p .given .1) (sym (fit .before .fits2 .ensures) ∙ not-false _ (fit .if1 .left))
+    λ last. i .2 last ∙ inside-again last _ _ _ _ _ (sym (call .record-at .ensures .0) ∙ found .p .given .1) (b .number) (sym (fit .before .fits2 .ensures) ∙ not-false _ (fit .if1 .left))
     (marked (call .before .loop .seen) (i .0) (i .1) _ (b .number) (c .if2 .taken))
 
 array-write-seen-2 : tie.Need-array-write-seen-2 Inv-loop μ-loop
@@ -98,7 +99,7 @@ loop-again c =
     let b = rw (found .p .given .1) at (call .record-at .ensures .1) in (
       found .p .given .0 .0 .r ∷ i .0,
       marks-more (call .before .loop .seen) (i .0) (found .p .given .0 .0 .r) (omega arith) (i .1),
-      λ last. i .2 last ∙ inside-on last _ _ _ _ _ e (sym (fit .before .fits2 .ensures) ∙ not-false _ (fit .if1 .left)) (unmarked (call .before .loop .seen) (i .0) (i .1) _ (b .number) (c .if2 .left)),
+      λ last. i .2 last ∙ inside-on last _ _ _ _ _ e (b .number) (sym (fit .before .fits2 .ensures) ∙ not-false _ (fit .if1 .left)) (unmarked (call .before .loop .seen) (i .0) (i .1) _ (b .number) (c .if2 .left)),
       simp length-set (i .3),
       omega (arith, l .behind, l .in-order),
       l .inside,

@@ -1,29 +1,31 @@
+-- `Drive::at_track` meets its contract: it stands where the search for the track ends. Assumes nothing.
 use borrow.Author.Needs.{needs}
+use mathlib.Core.Path.{refl}
+use Rattle.drive.specs.Drive as Abstract
+use Rattle.position.proofs.Index.{index-on, index-off}
 use Rattle.position.proofs.Drive.at_track.Statement.{statement}
 use Rattle.position.proofs.Drive.at_track.Tie as tie
-use Rattle.position.proofs.Drive.at_track.Reads as reads
-use Rattle.position.proofs.Drive.at_track.Lts as lts
-use Rattle.pack.proofs.find_track.Reads as find-track-reads
 
--- src/lib.rt:52:15
 find-track-requires : tie.Need-find-track-requires
 find-track-requires c κs = search needs
 
--- src/lib.rt:53:30
 enum-known-at : tie.Need-enum-known-at
 enum-known-at c = search needs
 
--- src/lib.rt:64:33
 enum-told : tie.Need-enum-told
 enum-told c = search needs
 
--- src/lib.rt:46:5
 returns : tie.Need-returns
-returns c = ?
+unfolding Abstract.atIndex
+returns c =
+    let start = c .before .before .before .before .before in
+    (refl, index-on _ _ _ (start .pre .0) (start .pre .1) _ (rw (c .before .at .given .1) at (c .before .before .before .find-track .ensures)))
 
--- src/lib.rt:46:5
 returns-2 : tie.Need-returns-2
-returns-2 c = ?
+unfolding Abstract.atIndex
+returns-2 c =
+    let start = c .before .before .before .before in
+    (refl, index-off _ _ _ (start .pre .0) (start .pre .1) (rw (c .enum-told .given .1) at (c .before .before .find-track .ensures)))
 
 pub at-track-spec : {M : Type 1} → statement M
 at-track-spec = tie.close (tie.spec find-track-requires enum-known-at enum-told returns returns-2)

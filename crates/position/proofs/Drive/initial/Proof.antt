@@ -1,17 +1,15 @@
+-- `Drive::initial` meets its contract: a run starts at the index of the first track. Assumes nothing.
 use borrow.Author.Needs.{needs}
+use Rattle.drive.specs.Drive as Abstract
 use Rattle.position.proofs.Drive.initial.Statement.{statement}
 use Rattle.position.proofs.Drive.initial.Tie as tie
-use Rattle.position.proofs.Drive.initial.Reads as reads
-use Rattle.position.proofs.Drive.initial.Lts as lts
-use Rattle.position.proofs.Drive.at_track.Reads as at-track-reads
 
--- src/lib.rt:84:9
 at-track-requires : tie.Need-at-track-requires
 at-track-requires c κs = search needs
 
--- src/lib.rt:79:5
 returns : tie.Need-returns
-returns c = ?
+unfolding Abstract.atIndex Abstract.initial
+returns c = c .at-track .ensures
 
 pub initial-spec : {M : Type 1} → statement M
 initial-spec = tie.close (tie.spec at-track-requires returns)
