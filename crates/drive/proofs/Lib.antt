@@ -2,3 +2,4 @@ pub mod Example
 pub mod Steps
 pub mod Origin
 pub mod Local
+pub mod Arguments

@@ -1,4 +1,11 @@
 // The trial drive.
+use channel::Ccw;
+use channel::Location;
+ghost use mathlib.Core.Path.{_≡_};
+ghost use Prim.Native.Nat.{_<_};
+ghost use Rattle.channel.specs.Fetch.{InBytes};
+ghost use Rattle.drive.specs.Command.{commandOf};
+ghost use Rattle.drive.specs.Arguments.{Insides, Argues, Sounds, ArgumentIn, ArgumentByte};
 
 // What a read moves: the count area, the key, the data; and whether it takes the record whose count area was just passed.
 pub struct Read {
@@ -23,4 +30,110 @@ pub enum Command {
 pub enum FileMask {
     Unset,
     Set(u8),
+}
+
+// The command of a code.
+pub fn command_of(code: u8) -> Command
+    ensures { λ r. ⌜ r ≡ commandOf code ⌝ }
+{
+    match code {
+        0x03 => Command::NoOperation,
+        0x07 => Command::Seek,
+        0x1f => Command::SetMask,
+        0x23 => Command::SetSector,
+        0x31 => Command::SearchId,
+        0x06 => Command::ReadRecord(Read {
+            just: true,
+            counts: false,
+            keys: false,
+            datas: true,
+        }),
+        0x0e => Command::ReadRecord(Read {
+            just: true,
+            counts: false,
+            keys: true,
+            datas: true,
+        }),
+        0x12 => Command::ReadRecord(Read {
+            just: false,
+            counts: true,
+            keys: false,
+            datas: false,
+        }),
+        0x1e => Command::ReadRecord(Read {
+            just: false,
+            counts: true,
+            keys: true,
+            datas: true,
+        }),
+        0x1a => Command::ReadHome,
+        _ => Command::Unlisted,
+    }
+}
+
+// Whether a CCW's argument is wholly in its area, with arguments and restart arguments of these lengths.
+fn argument_inside(l: Location, c: Ccw, arguments: usize, restarts: usize) -> bool
+    requires { ⌜ InBytes c ⌝ }
+    ensures { λ r. ⌜ Insides arguments restarts l c r ⌝ }
+{
+    match l {
+        Location::Chain(_) => {
+            return c.address + c.count <= arguments;
+        }
+        Location::Restart(_) => {
+            if c.address < 0x2000 {
+                return false;
+            }
+            return c.address - 0x2000 + c.count <= restarts;
+        }
+    }
+}
+
+// Whether a control or search command with an argument makes no program check.
+fn argument_sound(l: Location, c: Ccw, arguments: usize, restarts: usize) -> bool
+    requires { ⌜ InBytes c ⌝ }
+    ensures { λ r. ⌜ Argues arguments restarts l c r ⌝ }
+{
+    if !c.formed() {
+        return false;
+    }
+    argument_inside(l, c, arguments, restarts)
+}
+
+// Whether a CCW that is command k makes no program check, with storage of `size` bytes.
+pub fn sound(
+    l: Location,
+    c: Ccw,
+    k: Command,
+    arguments: usize,
+    restarts: usize,
+    size: usize,
+) -> bool
+    requires { ⌜ InBytes c ⌝ }
+    ensures { λ r. ⌜ Sounds arguments restarts l size c k r ⌝ }
+{
+    match k {
+        Command::NoOperation => c.formed(),
+        Command::Unlisted => c.formed(),
+        Command::Seek => argument_sound(l, c, arguments, restarts),
+        Command::SetMask => argument_sound(l, c, arguments, restarts),
+        Command::SetSector => argument_sound(l, c, arguments, restarts),
+        Command::SearchId => argument_sound(l, c, arguments, restarts),
+        Command::ReadHome => c.readable(size),
+        Command::ReadRecord(_) => c.readable(size),
+    }
+}
+
+// Byte k of a CCW's argument.
+pub fn argument_byte(arguments: &[u8], restarts: &[u8], l: Location, c: Ccw, k: usize) -> usize
+    requires { ⌜ ArgumentIn (now arguments) (now restarts) l c ⌝ }
+    requires { ⌜ k < c .count ⌝ }
+    requires { ⌜ InBytes c ⌝ }
+    ensures { λ r. ⌜ r < 256 ⌝ }
+    ensures { λ r. ⌜ ArgumentByte (now (arguments .entry)) (now (restarts .entry)) l c k r ⌝ }
+{
+    match l {
+        Location::Chain(_) => base::byte(arguments, c.address + k),
+        Location::Restart(_) => base::byte(restarts, c.address - 0x2000 + k),
+    }
 }

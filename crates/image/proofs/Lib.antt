@@ -1,2 +1,4 @@
 pub mod Marks
 pub mod Pass
+pub mod Sound
+pub mod Pigeons
