@@ -4,6 +4,9 @@
 --   next-in             the CCW behind is in the chain
 --   resolve-in          so is the CCW that comes next
 --   walk-in             and the one that a walk ends with
+--   beside              the chain with other areas beside it
+--   resolve-same, walk-same
+--                       the CCW that comes next and a walk see the chain alone
 --   withRestart         the lent areas with another restart program and its arguments
 --   resolve-local       the CCW that comes next is the same with another restart program
 --   walk-local          so is a walk
@@ -76,42 +79,56 @@ walk-in p size (suc n) l c (suc left) a h =
     let there = chained-in (walk p size n) size (resolve p l (next l)) (resolve-in p l (next l) (next-in l h)) (walk-in p size n) in
     behindPlace-in (placeUnder c a) _ (both WalkIn _ there (walk-in p size n l c left (a + 1) h))
 
--- ---- another restart program
+-- ---- other areas beside the chain
 
-abbrev pub withRestart : Lent → List ℕ → List ℕ → Lent
-withRestart p program arguments = record { chain = p .chain; arguments = p .arguments; program = program; restartArguments = arguments }
+-- the chain with other areas beside it
+abbrev pub beside : Lent → List ℕ → List ℕ → List ℕ → Lent
+beside p arguments program restarts = record { chain = p .chain; arguments = arguments; program = program; restartArguments = restarts }
 
-module _ (p : Lent) (program arguments : List ℕ) where
+module _ (p : Lent) (arguments program restarts : List ℕ) where
   abbrev q : Lent
-  q = withRestart p program arguments
+  q = beside p arguments program restarts
 
-  follow-local : (last : Location) (a : ℕ) (o : Option Ccw) → follow q last (Chain a) o ≡ follow p last (Chain a) o
+  follow-same : (last : Location) (a : ℕ) (o : Option Ccw) → follow q last (Chain a) o ≡ follow p last (Chain a) o
   unfolding follow fetch target
-  follow-local last a none = refl
-  follow-local last a (some c) = refl
+  follow-same last a none = refl
+  follow-same last a (some c) = refl
 
-  pub resolve-local : (last l : Location) → InChain l → resolve (withRestart p program arguments) last l ≡ resolve p last l
+  pub resolve-same : (last l : Location) → InChain l → resolve (beside p arguments program restarts) last l ≡ resolve p last l
   unfolding resolve fetch
-  resolve-local last (Chain a) h = follow-local last a (fetchIn (p .chain) a)
-  resolve-local last (Restart a) h = absurd h
+  resolve-same last (Chain a) h = follow-same last a (fetchIn (p .chain) a)
+  resolve-same last (Restart a) h = absurd h
 
-  chained-local : (size n : ℕ) (g : Fetched) → FetchedIn g
+  chained-same : (size n : ℕ) (g : Fetched) → FetchedIn g
       → ((l : Location) (c : Ccw) (left a : ℕ) → InChain l → walk q size n l c left a ≡ walk p size n l c left a)
       → chained (walk q size n) size g ≡ chained (walk p size n) size g
   unfolding chained
-  chained-local size n (Broken l) h f = refl
-  chained-local size n (Got l c) h f = choose _ (f l c (c .count) (c .address) h) refl
+  chained-same size n (Broken l) h f = refl
+  chained-same size n (Got l c) h f = choose _ (f l c (c .count) (c .address) h) refl
+
+  pub walk-same : (size n : ℕ) (l : Location) (c : Ccw) (left a : ℕ) → InChain l
+      → walk (beside p arguments program restarts) size n l c left a ≡ walk p size n l c left a
+  unfolding walk
+  walk-same size zero l c left a h = refl
+  walk-same size (suc n) l c zero a h = refl
+  walk-same size (suc n) l c (suc left) a h =
+      let k = next-in l h in
+      ap (behindPlace (placeUnder c a)) (choose _
+      (rw (resolve-same l (next l) k) (chained-same size n (resolve p l (next l)) (resolve-in p l (next l) k) (walk-same size n)))
+      (walk-same size n l c left (a + 1) h))
+
+-- ---- another restart program
+
+abbrev pub withRestart : Lent → List ℕ → List ℕ → Lent
+withRestart p program arguments = beside p (p .arguments) program arguments
+
+module _ (p : Lent) (program arguments : List ℕ) where
+  pub resolve-local : (last l : Location) → InChain l → resolve (withRestart p program arguments) last l ≡ resolve p last l
+  resolve-local = resolve-same p (p .arguments) program arguments
 
   pub walk-local : (size n : ℕ) (l : Location) (c : Ccw) (left a : ℕ) → InChain l
       → walk (withRestart p program arguments) size n l c left a ≡ walk p size n l c left a
-  unfolding walk
-  walk-local size zero l c left a h = refl
-  walk-local size (suc n) l c zero a h = refl
-  walk-local size (suc n) l c (suc left) a h =
-      let k = next-in l h in
-      ap (behindPlace (placeUnder c a)) (choose _
-      (rw (resolve-local l (next l) k) (chained-local size n (resolve p l (next l)) (resolve-in p l (next l) k) (walk-local size n)))
-      (walk-local size n l c left (a + 1) h))
+  walk-local = walk-same p (p .arguments) program arguments
 
   pub argument-local : (l : Location) (c : Ccw) → InChain l → argument (withRestart p program arguments) l c ≡ argument p l c
   unfolding argument argumentsAt

@@ -1,1 +1,3 @@
 pub mod Run
+pub mod Whole
+pub mod Notes
