@@ -1,1 +1,3 @@
 pub mod Genuine
+pub mod Hits
+pub mod Mending
