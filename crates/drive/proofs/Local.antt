@@ -1,8 +1,10 @@
 -- A run that has come to the chain does not see the restart program.
 --   withProgram         a setting with another restart program and its arguments
+--   execute-local       a CCW of the chain does the same with it
 --   plan-local          the plan of a command in the chain is the same with it
 --   step-local          so is what the command comes to
 --   run-local           so is the whole run
+--   run-joins           a run whose first command comes to the same as one in the chain goes on like that one
 use Prim.Native.Nat.{ℕ, zero, suc}
 use mathlib.Core.Path.{_≡_, refl, sym, _∙_}
 use mathlib.Core.List.{List}
@@ -62,7 +64,7 @@ module _ (w : Setting) (program arguments : List ℕ) where
     perform-local ReadHome = found _ refl (λ t. transfer-local _ _ _)
     perform-local (ReadRecord k) = found _ refl (λ t. choose _ (transfer-local _ _ _) refl)
 
-    execute-local : Step.execute (withProgram w program arguments) l c d st ≡ Step.execute w l c d st
+    pub execute-local : Step.execute (withProgram w program arguments) l c d st ≡ Step.execute w l c d st
     unfolding Step.execute
     execute-local = rw (sound-local l (length st) c (commandOf (c .command)) h) (choose _ (perform-local (commandOf (c .command))) refl)
 
@@ -80,20 +82,25 @@ module _ (w : Setting) (program arguments : List ℕ) where
   unfolding Step.step
   step-local fs s h = rw (plan-local s h)
 
-pub run-local : (fs : List Fault) (w : Setting) (program arguments : List ℕ) (n : ℕ) (s : State) → InChain (s .at)
-    → run (Step.step fs (withProgram w program arguments)) n s ≡ run (Step.step fs w) n s
-unfolding run
-run-local fs w program arguments zero s h = refl
-run-local fs w program arguments (suc n) s h = by (run-local fs w program arguments n) (Step.step fs w s) refl
-  where
-    other : State → Answer
-    other = Step.step fs (withProgram w program arguments)
+module _ (fs : List Fault) (w : Setting) (program arguments : List ℕ) where
+  abbrev other : State → Answer
+  other = Step.step fs (withProgram w program arguments)
 
-    same : other s ≡ Step.step fs w s
-    same = step-local w program arguments fs s h
+  -- two runs whose first commands come to the same
+  joined : (n : ℕ) → ((t : State) → InChain (t .at) → run other n t ≡ run (Step.step fs w) n t)
+      → (r s : State) → other r ≡ Step.step fs w s → InChain (s .at) → run other (suc n) r ≡ run (Step.step fs w) (suc n) s
+  joined n f r s same h = by (Step.step fs w s) refl
+    where
+      by : (a : Answer) → Step.step fs w s ≡ a → run other (suc n) r ≡ run (Step.step fs w) (suc n) s
+      by (goes t) e = run-goes other n r t (same ∙ e) ∙ f t (step-stays fs w s t e h) ∙ sym (run-goes (Step.step fs w) n s t e)
+      by (ends x) e = run-ends other n r x (same ∙ e) ∙ sym (run-ends (Step.step fs w) n s x e)
+      by (cuts k) e = run-cuts other n r k (same ∙ e) ∙ sym (run-cuts (Step.step fs w) n s k e)
 
-    by : ((t : State) → InChain (t .at) → run other n t ≡ run (Step.step fs w) n t) → (a : Answer) → Step.step fs w s ≡ a
-        → run other (suc n) s ≡ run (Step.step fs w) (suc n) s
-    by f (goes t) e = run-goes other n s t (same ∙ e) ∙ f t (step-stays fs w s t e h) ∙ sym (run-goes (Step.step fs w) n s t e)
-    by f (ends x) e = run-ends other n s x (same ∙ e) ∙ sym (run-ends (Step.step fs w) n s x e)
-    by f (cuts k) e = run-cuts other n s k (same ∙ e) ∙ sym (run-cuts (Step.step fs w) n s k e)
+  pub run-local : (n : ℕ) (s : State) → InChain (s .at) → run (Step.step fs (withProgram w program arguments)) n s ≡ run (Step.step fs w) n s
+  unfolding run
+  run-local zero s h = refl
+  run-local (suc n) s h = joined n (run-local n) s s (step-local w program arguments fs s h) h
+
+  pub run-joins : (n : ℕ) (r s : State) → Step.step fs (withProgram w program arguments) r ≡ Step.step fs w s → InChain (s .at)
+      → run (Step.step fs (withProgram w program arguments)) (suc n) r ≡ run (Step.step fs w) (suc n) s
+  run-joins n r s same h = joined n (run-local n) r s same h

@@ -2,16 +2,21 @@
 --   settled-ends, settled-goes   what a faultless read says by its answer
 --   closes                       a cut where the faultless run ends
 --   mends                        a cut where it goes on
-use Prim.Native.Nat.{ℕ, zero, suc, _+_, _-_, _≤_, _<_}
+use Prim.Native.Nat.{ℕ, zero, suc, _+_, _-_, _%_, _≤_, _<_}
 use native.Mathlib.Omega.{arith}
 use mathlib.Core.Path.{_≡_, refl, ap, ap₂, sym, _∙_}
 use mathlib.Core.Bool.{Bool, true, false, _&&_, _||_, not}
 use mathlib.Core.Option.{Option, none, some}
 use mathlib.Core.List.{List, [], _∷_}
-use lib.ListN.{length}
-use Rattle.base.specs.Choice.{pick}
+use lib.Dec.{eqb, leb}
+use lib.ListN.{length, take}
+use borrow.Author.Tests.{leb-true}
+use Rattle.base.specs.Choice.{pick, opt}
 use Rattle.base.specs.Bits.{bitOn}
-use Rattle.base.proofs.Choice.{split}
+use Rattle.base.specs.Bytes.{two}
+use Rattle.base.proofs.Choice.{split, and-left, and-right}
+use Rattle.questions.specs.Areas.{chainFits, argumentsFit, storageFits, imageFits, faultsFit, limitFits, runAreas}
+use Rattle.address.specs.declared.Address.{Address}
 use Rattle.address.specs.Within.{extentOf}
 use Rattle.pack.specs.Pack.{Record}
 use Rattle.faults.specs.Faults.{Fault}
@@ -24,18 +29,28 @@ use Rattle.channel.specs.declared.Location.{Location}
 use Rattle.channel.specs.declared.Location.the-variants.{Chain, Restart}
 use Rattle.channel.specs.declared.Fetched.{Fetched}
 use Rattle.channel.specs.declared.Fetched.the-variants.{Got, Broken}
-use Rattle.channel.specs.Ccw.{chainsCommand, next, resolve}
+use Rattle.channel.specs.Ccw.{Lent, chainsCommand, isTic, next, fetchIn, fetch, resolve}
 use Rattle.channel.specs.Store.{store}
 use Rattle.channel.specs.Walk.{Walk, walked, stopped, incorrectLength}
-use Rattle.channel.proofs.InChain.{InChain}
-use Rattle.drive.specs.Drive.{Drive}
+use Rattle.channel.proofs.InChain.{InChain, next-in, resolve-in, resolve-same}
+use Rattle.channel.proofs.Walks.{resolve-got}
+use Rattle.drive.specs.declared.FileMask.{FileMask}
+use Rattle.drive.specs.declared.FileMask.the-variants.{Set}
+use Rattle.drive.specs.Drive as Drive
+use Rattle.drive.specs.Drive.{Drive, addressBytes}
 use Rattle.drive.specs.Step as Step
-use Rattle.drive.specs.Step.{State, End, Cut, Answer, Setting, Transfer, plan, step, cswAt, noSense, lengthStatus, settled, faulted, onward, programCheck}
+use Rattle.drive.specs.Step.{State, End, Cut, Answer, Setting, Transfer, plan, step, cswAt, noSense, lengthStatus, settled, faulted, onward, programCheck, settable}
+use Rattle.drive.specs.Run.{runFrom, ticFirst}
 use Rattle.drive.proofs.Steps as Steps
 use Rattle.drive.proofs.Origin as Origin
+use Rattle.drive.proofs.Local.{execute-local, run-joins}
+use Rattle.restart.specs.Restart.{searchProgram, searchArguments, argumentsOf, padded}
+use Rattle.restart.proofs.Commands as Commands
+use Rattle.restart.proofs.Commands.{placed}
+use Rattle.restart.proofs.Reach.{Sought, Faultless, commands, commands-few, resumes}
 use Rattle.recovery.specs.Table.{rows}
 use Rattle.recovery.specs.Recovery as Recovery
-use Rattle.recovery.specs.Recovery.{Given, fetchMode, recover, five}
+use Rattle.recovery.specs.Recovery.{Given, fetchMode, onlyChain, seekAllowed, recover, five, fiveA}
 use Rattle.law.specs.WholeReading.{Entry, Restarted, Final, Stopped, reportOf, entryOf, answered, recoverCut, restartedIn, restartedRun, final, givenIn}
 use Rattle.law.specs.Demand.{Lending, settingOf, Begins, allInside, Named, recovered, SeeksInside}
 use Rattle.law.proofs.Genuine.{Genuine, cutAt, finishes, restarts-with}
@@ -72,6 +87,46 @@ module _ (bs : List ℕ) (d : Drive) (st : List ℕ) (ps : List (Option ℕ)) (z
       (λ q. let v : _≡_ {A = Answer} (ends (off (lengthStatus wrong))) (goes t) = rw q at (sym settled-is ∙ h) in let x : _≡_ {A = ℕ} 0 1 = cc in absurd (omega arith))
       (λ q. let v : _≡_ {A = Answer} (goes on) (goes t) = rw q at (sym settled-is ∙ h) in (q, (cc)))
 
+-- ---- the lent areas
+
+module _ (chain arguments storage image faults limit : ℕ) (h : runAreas chain arguments storage image faults limit ≡ true) where
+  areas-chain : chain ≤ 2048
+  unfolding runAreas chainFits
+  areas-chain =
+      let with-faults = and-left (chainFits chain && argumentsFit arguments && storageFits storage && imageFits image && faultsFit faults) (limitFits limit) h in
+      let with-image = and-left (chainFits chain && argumentsFit arguments && storageFits storage && imageFits image) (faultsFit faults) with-faults in
+      let with-storage = and-left (chainFits chain && argumentsFit arguments && storageFits storage) (imageFits image) with-image in
+      let with-arguments = and-left (chainFits chain && argumentsFit arguments) (storageFits storage) with-storage in
+      let fits = and-left (chainFits chain) (argumentsFit arguments) with-arguments in
+      leb-true chain 2048 (and-right (leb 8 chain) (leb chain 2048) (and-left (leb 8 chain && leb chain 2048) (eqb (chain % 8) 0) fits))
+
+  pub areas-limit : limit ≤ 4096
+  unfolding runAreas limitFits
+  areas-limit =
+      leb-true limit 4096 (and-right (leb 1 limit) (leb limit 4096)
+      (and-right (chainFits chain && argumentsFit arguments && storageFits storage && imageFits image && faultsFit faults) (limitFits limit) h))
+
+-- ---- the next CCW, the drive and the mask behind a read
+
+-- a CCW that is fetched lies below the chain's end
+fetched-below : (p : Lent) (to : ℕ) (d : Ccw) → fetch p (Chain to) ≡ some d → to < length (p .chain)
+unfolding fetch fetchIn pick
+fetched-below p to d e =
+    split (leb (to + 8) (length (p .chain)) && eqb (to % 8) 0)
+    (λ q. let v = leb-true (to + 8) (length (p .chain)) (and-left (leb (to + 8) (length (p .chain))) (eqb (to % 8) 0) q) in omega arith)
+    (λ q. let v : _≡_ {A = Option Ccw} none (some d) = rw q at e in let z : _≡_ {A = ℕ} 0 1 = cc in absurd (omega arith))
+
+drive-is : (d e : Drive) (i : ℕ) (a : Address) → e ≡ Drive.behind d i false 0 → d .at ≡ a → e ≡ placed a (e .mask) (i + 1) false
+unfolding Drive.behind
+drive-is d e i a h q = rw (h, ← q) refl
+
+legal-set : (m : FileMask) → Origin.legal m → (b : ℕ) → m ≡ Set b → settable b ≡ true
+legal-set m h b e = rw e at h
+
+not-not : (b : Bool) → b ≡ not (not b)
+not-not true = refl
+not-not false = refl
+
 -- ---- readings
 
 -- "not by a program check"
@@ -95,6 +150,10 @@ module _ (g : Lending) (b : Begins g) (inside : allInside (extentOf (g .extent))
 
   abbrev given : Given
   given = givenIn w rows (extentOf (g .extent))
+
+  chain-short : length (w .lent .chain) ≤ 4096
+  unfolding settingOf
+  chain-short = let v = areas-chain (length (g .chain)) _ _ _ _ _ (b .areas) in omega arith
 
   abbrev pub clean : State → Answer
   clean = step [] w
@@ -154,3 +213,94 @@ module _ (g : Lending) (b : Begins g) (inside : allInside (extentOf (g .extent))
                 ap (answered cut-is) (finishes w s (H .t) (H .y) (H .f) ps z c left over genuine given refl refl calm-after (f .0))
                 ∙ ap (finish (entryOf five cut-is)) (sym (f .1));
           }
+
+      -- ---- a cut where the chain goes on
+
+      ends-in-chain : InChain z
+      ends-in-chain = rw walk-is at (Origin.ends-in w s (H .t) (H .from) (fine .here))
+
+      abbrev st : List ℕ
+      st = store ps (H .t .bytes) (s .storage)
+
+      abbrev behind : State
+      behind = on (H .t .bytes) (H .t .after) (s .storage) ps z c left over
+
+      abbrev m : FileMask
+      m = H .t .after .mask
+
+      module _ (more : (incorrectLength c left over || not (chainsCommand c)) ≡ false) (to : ℕ) (d : Ccw) (comes : resolve (w .lent) z (next z) ≡ Got (Chain to) d) where
+        abbrev counts : Bool
+        counts = not (bitOn 3 (d .command))
+
+        abbrev first : Restarted
+        first = record { program = searchProgram m counts to; arguments = searchArguments (H .y .at) m 0 (H .y .r); storage = st }
+
+        abbrev kind : Recovery.Kind
+        kind = pick (bitOn 3 (d .command)) five fiveA
+
+        allowed : seekAllowed given (H .y .at) ≡ true
+        unfolding seekAllowed givenIn settingOf
+        allowed = rw (H .on-pack, H .inside)
+
+        comes-alone : resolve (onlyChain (given .chain)) z (next z) ≡ Got (Chain to) d
+        unfolding onlyChain givenIn
+        comes-alone = resolve-same (w .lent) [] [] [] z (next z) (next-in z ends-in-chain) ∙ comes
+
+        rebuilt : recoverCut given cut-is ≡ restart (entryOf kind cut-is) first
+        unfolding recoverCut answered givenIn
+        rebuilt = ap (answered cut-is) (restarts-with w s (H .t) (H .y) (H .f) ps z c left over genuine given refl refl calm-after more to d comes-alone allowed)
+
+        sought : Sought w (H .y .at) (H .y .r) (H .track) (H .place)
+        unfolding settingOf
+        sought = record {
+          on-pack = H .on-pack;
+          there = H .there;
+          inside = H .below;
+          not-zero = H .not-zero;
+          own = H .own;
+          this = H .this;
+          others = H .others;
+        }
+
+        faultless : Faultless w (H .y .at) m counts (H .place) to d st behind
+        unfolding settingOf
+        faultless =
+            let got = resolve-got (w .lent) z (next z) (Chain to) d comes in
+            record {
+              drive = drive-is (s .drive) (H .t .after) (H .place) (H .y .at) (H .after-is) (H .drive-at);
+              storage = refl;
+              comes = comes;
+              held = got .0;
+              plain = got .1;
+              in-chain = omega (arith, fetched-below (w .lent) to d (got .0), chain-short);
+              bit = not-not (bitOn 3 (d .command));
+            }
+
+        may : (b : ℕ) → m ≡ Set b → settable b ≡ true
+        may = legal-set m (rw (H .from .mask-is) (fine .legal-mask))
+
+        abbrev used : ℕ
+        used = commands m counts (H .place)
+
+        reaches : (n : ℕ) → used + suc n ≡ 8192 → restartedRun fs w first ≡ run faulty (suc n) behind
+        unfolding restartedRun restartedIn runFrom ticFirst isTic opt pick
+        reaches n e =
+            let r = resumes w (H .y .at) 0 (H .y .r) to st m counts (H .track) (H .place) d behind fs sought faultless
+                (λ x. execute-local w (first .program) (first .arguments) (Chain to) d x st tt) may (omega arith) n in
+            rw (Commands.fetches w (H .y .at) 0 (H .y .r) to m counts .seek, ← e)
+            (r .0 ∙ run-joins fs w (first .program) (first .arguments) n _ behind (r .1) (next-in z ends-in-chain))
+
+        mended-at : Mended faulty (restartedRun fs w) (recoverCut given) final recovered 8192 260 (SeeksInside (extentOf (g .extent))) h s behind
+        unfolding recovered entryOf searchArguments argumentsOf padded addressBytes two
+        mended-at = record {
+          report = cut-is;
+          entry = entryOf kind cut-is;
+          first = first;
+          used = used;
+          is-cut = is-cut;
+          built = rebuilt;
+          noted = sym (H .name-is);
+          few = omega (arith, commands-few m counts (H .place), H .below, H .few);
+          inside = (H .y .at, H .inside, refl);
+          reaches = reaches;
+        }
