@@ -32,7 +32,7 @@ use Rattle.channel.specs.declared.Fetched.the-variants.{Got, Broken}
 use Rattle.channel.specs.Ccw.{Lent, chainsCommand, isTic, next, fetchIn, fetch, resolve}
 use Rattle.channel.specs.Store.{store}
 use Rattle.channel.specs.Walk.{Walk, walked, stopped, incorrectLength}
-use Rattle.channel.proofs.InChain.{InChain, next-in, resolve-in, resolve-same}
+use Rattle.channel.proofs.InChain.{InChain, FetchedIn, next-in, resolve-in, resolve-same}
 use Rattle.channel.proofs.Walks.{resolve-got}
 use Rattle.drive.specs.declared.FileMask.{FileMask}
 use Rattle.drive.specs.declared.FileMask.the-variants.{Set}
@@ -134,12 +134,18 @@ abbrev pub Good : End → Type 0
 Good e = e .csw .channel ≡ 0x20 → ⊥
 
 -- a program check's answer
+abbrev checkedAt : Location → Drive → List ℕ → End
+checkedAt l d st = record { csw = cswAt l 0 0x20 0; sense = noSense; mask = d .mask; storage = st }
+
+ends-is : {a b : End} → _≡_ {A = Answer} (ends a) (ends b) → a ≡ b
+ends-is q = cc
+
+ended-is : {a b : End} → _≡_ {A = Result State End Cut} (ended a) (ended b) → a ≡ b
+ended-is q = cc
+
 checked-channel : (l : Location) (d : Drive) (st : List ℕ) (e : End) → programCheck l d st ≡ ends e → e .csw .channel ≡ 0x20
 unfolding programCheck cswAt
-checked-channel l d st e h = let v : _ ≡ e = ends-is h in ap (λ (x : End). x .csw .channel) (sym v)
-  where
-    ends-is : {a b : End} → _≡_ {A = Answer} (ends a) (ends b) → a ≡ b
-    ends-is q = cc
+checked-channel l d st e h = let k : checkedAt l d st ≡ e = ends-is h in rw (← k) refl
 
 module _ (g : Lending) (b : Begins g) (inside : allInside (extentOf (g .extent)) (g .faults) ≡ true) where
   abbrev fs : List Fault
@@ -304,3 +310,64 @@ module _ (g : Lending) (b : Begins g) (inside : allInside (extentOf (g .extent))
           inside = (H .y .at, H .inside, refl);
           reaches = reaches;
         }
+
+    -- ---- by the walk
+
+    abbrev Closes : End → Type 0
+    Closes e = Closed faulty (restartedRun fs w) (recoverCut given) final recovered 8192 260 (SeeksInside (extentOf (g .extent))) h s e
+
+    abbrev Mends : State → Type 0
+    Mends t = Mended faulty (restartedRun fs w) (recoverCut given) final recovered 8192 260 (SeeksInside (extentOf (g .extent))) h s t
+
+    closes-hit : (e : End) → clean s ≡ ends e → Good e → Closes e
+    unfolding settled
+    closes-hit e q good = by (H .t .walk) refl
+      where
+        by : (v : Walk) → H .t .walk ≡ v → Closes e
+        by (walked ps z c left over) u = closed-at ps z c left over u e q
+        by (stopped ps l) u =
+            absurd (good (checked-channel l (H .t .after) (store ps (H .t .bytes) (s .storage)) e
+            (sym (clean-is ∙ ap (settled (H .t .bytes) (H .t .after) (s .storage)) u) ∙ q)))
+
+    -- a chain that breaks behind the read ends by a program check
+    breaks : (t : State) (l : Location) → resolve (w .lent) (t .last) (t .at) ≡ Broken l → clean t ≡ ends (checkedAt l (t .drive) (t .storage))
+    unfolding step Step.carry plan Step.dispatch programCheck
+    breaks t l e = rw e
+
+    broken-end : (t : State) (l : Location) → resolve (w .lent) (t .last) (t .at) ≡ Broken l → (n : ℕ) (e : End) → run clean n t ≡ ended e → e .csw .channel ≡ 0x20
+    unfolding run cswAt
+    broken-end t l broken zero e q = let z : _≡_ {A = ℕ} 0 1 = cc in absurd (omega arith)
+    broken-end t l broken (suc n) e q = ended-check (run-ends clean n t _ (breaks t l broken)) q
+      where
+        ended-check : {r : Result State End Cut} → r ≡ ended (checkedAt l (t .drive) (t .storage)) → r ≡ ended e → e .csw .channel ≡ 0x20
+        ended-check u v = let k : checkedAt l (t .drive) (t .storage) ≡ e = ended-is (sym u ∙ v) in rw (← k) refl
+
+    module _ (t : State) (q : clean s ≡ goes t) (n : ℕ) (e : End) (rest : run clean n t ≡ ended e) (good : Good e) where
+      module _ (ps : List (Option ℕ)) (z : Location) (c : Ccw) (left : ℕ) (over : Bool) (u : H .t .walk ≡ walked ps z c left over) where
+        parts : ((incorrectLength c left over || not (chainsCommand c)) ≡ false) × (behind ps z c left over u ≡ t)
+        parts = settled-goes (H .t .bytes) (H .t .after) (s .storage) ps z c left over t (settles ps z c left over u q)
+
+        mends-next : (k : Fetched) → resolve (w .lent) z (next z) ≡ k → FetchedIn k → Mends t
+        mends-next (Got (Chain to) d) v i = rw (← (parts .1)) (mended-at ps z c left over u (parts .0) to d v)
+        mends-next (Got (Restart to) d) v i = absurd i
+        mends-next (Broken l) v i = absurd (good (broken-end (behind ps z c left over u) l v n e (rw (← (parts .1)) at rest)))
+
+      mends-hit : Mends t
+      unfolding settled programCheck
+      mends-hit = by (H .t .walk) refl
+        where
+          by : (v : Walk) → H .t .walk ≡ v → Mends t
+          by (walked ps z c left over) u =
+              mends-next ps z c left over u (resolve (w .lent) z (next z)) refl (resolve-in (w .lent) z (next z) (next-in z (ends-in-chain ps z c left over u)))
+          by (stopped ps l) u =
+              let v : _≡_ {A = Answer} (ends (checkedAt l (H .t .after) (store ps (H .t .bytes) (s .storage)))) (goes t) =
+                  sym (clean-is ∙ ap (settled (H .t .bytes) (H .t .after) (s .storage)) u) ∙ q in
+              let x : _≡_ {A = ℕ} 0 1 = cc in absurd (omega arith)
+
+  pub closes : (h : Named) (s : State) (e : End) → Fine s → flag fs w s ≡ some h → clean s ≡ ends e → Good e
+      → Closed faulty (restartedRun fs w) (recoverCut given) final recovered 8192 260 (SeeksInside (extentOf (g .extent))) h s e
+  closes h s e fine f q good = closes-hit s fine h (hit g b inside s h f) e q good
+
+  pub mends : (h : Named) (s t : State) (n : ℕ) (e : End) → Fine s → flag fs w s ≡ some h → clean s ≡ goes t → run clean n t ≡ ended e → Good e
+      → Mended faulty (restartedRun fs w) (recoverCut given) final recovered 8192 260 (SeeksInside (extentOf (g .extent))) h s t
+  mends h s t n e fine f q rest good = mends-hit s fine h (hit g b inside s h f) t q n e rest good
