@@ -1,3 +1,4 @@
 pub mod Genuine
 pub mod Hits
 pub mod Mending
+pub mod DemandThree

@@ -140,7 +140,7 @@ checkedAt l d st = record { csw = cswAt l 0 0x20 0; sense = noSense; mask = d .m
 ends-is : {a b : End} → _≡_ {A = Answer} (ends a) (ends b) → a ≡ b
 ends-is q = cc
 
-ended-is : {a b : End} → _≡_ {A = Result State End Cut} (ended a) (ended b) → a ≡ b
+pub ended-is : {a b : End} → _≡_ {A = Result State End Cut} (ended a) (ended b) → a ≡ b
 ended-is q = cc
 
 checked-channel : (l : Location) (d : Drive) (st : List ℕ) (e : End) → programCheck l d st ≡ ends e → e .csw .channel ≡ 0x20

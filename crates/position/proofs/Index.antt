@@ -6,7 +6,6 @@ use Prim.Native.Nat.{ℕ, _<_}
 use native.Mathlib.Omega.{arith}
 use mathlib.Core.Path.{_≡_, ap, sym, _∙_}
 use mathlib.Core.Bool.{Bool, true, false}
-
 use mathlib.Core.List.{List}
 use Rattle.address.specs.declared.Address.{Address}
 use Rattle.pack.specs.declared.TrackAt.the-variants.{Records, NoTrack}

@@ -1,2 +1,5 @@
 pub mod Image
 pub mod Index
+pub mod Places
+pub mod Search
+pub mod Take

@@ -1,12 +1,11 @@
 -- The drive's state as the code keeps it: with places in the image's bytes beside the places on the track.
 use Prim.Native.Nat.{ℕ, _-_, _<_, _≤_}
 use mathlib.Core.Path.{_≡_}
-use mathlib.Core.Bool.{Bool, true, false, not}
+use mathlib.Core.Bool.{Bool, true, false}
 use mathlib.Core.Option.{none, some}
-use mathlib.Core.List.{List, [], _∷_}
+use mathlib.Core.List.{List}
 use lib.ListN.{length, drop}
 use Rattle.address.specs.declared.Address.{Address}
-use Rattle.pack.specs.declared.Place.{Place}
 use Rattle.pack.specs.Pack.{Record, Track, Decoded, decodeAt, packOf, trackIn}
 use Rattle.pack.specs.Places.{recordFrom, Within}
 use Rattle.channel.specs.declared.Ccw.{Ccw}
@@ -35,14 +34,14 @@ pub record Sound (image : List ℕ) : Type 0 where
   pub begun : (a : Address) (t : Track) → trackIn (packOf image) a ≡ some t → 0 < length (t .records)
 
 -- The drive is on a track of the image: where its records begin, where the count area that comes next stands, and where the one
--- that was just passed. As many bytes as records were passed, so that places can be counted.
+-- that was just passed. At least as many bytes as records lie before them, so that places on the track fit where places in the image do.
 pub record OnTrack (image : List ℕ) (d : Drive) (t : Track) : Type 0 where
   pub there : trackIn (packOf image) (d .at) ≡ some t
   pub first : StandsAt image (d .records) (t .records)
   pub ahead : StandsAt image (d .here) (drop (d .next) (t .records))
   pub within : d .next ≤ length (t .records)
   pub near : d .next ≤ d .here
-  pub just : d .passed ≡ true → (0 < d .next) × StandsAt image (d .behind) (drop (d .next - 1) (t .records))
+  pub just : d .passed ≡ true → (0 < d .next) × (d .next - 1 ≤ d .behind) × StandsAt image (d .behind) (drop (d .next - 1) (t .records))
 
 -- A drive in a sound image.
 pub record Standing (image : List ℕ) (d : Drive) : Type 0 where

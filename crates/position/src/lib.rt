@@ -6,10 +6,15 @@ use pack::Place;
 use pack::RecordAt;
 use pack::TrackAt;
 ghost use mathlib.Core.Path.{_≡_};
-ghost use Prim.Native.Nat.{_<_};
+ghost use mathlib.Core.Bool.{true, false, _&&_};
+ghost use mathlib.Core.List.{[], _∷_};
+ghost use Prim.Native.Nat.{_<_, _≤_};
+ghost use Rattle.pack.specs.declared.RecordAt.the-variants.{NoRecord};
+ghost use Rattle.pack.specs.Places.{recordAt};
 ghost use Rattle.drive.specs.declared.FileMask.the-variants as Masks;
 ghost use Rattle.drive.specs.Drive as Abstract;
-ghost use Rattle.position.specs.Standing.{driveOf, Sound, Standing};
+ghost use Rattle.position.specs.Standing.{driveOf, Sound, Standing, Examines, ExaminedStands, TakesFor, TakenStands};
+ghost use Rattle.position.specs.Spots.{Spots, Comes, Second, Ahead};
 
 // `found` says whether the image has the track. Then its records begin at `records`, the count area that comes next has place
 // `next` on the track and stands at `here`, and the one that was just passed stands at `behind`.
@@ -36,6 +41,36 @@ pub enum Examined {
 pub enum Taken {
     Takes(Place, Drive),
     Nothing,
+}
+
+// A record of the drive's track: its place on the track, where its field starts in the image, and where its parts lie.
+struct Spot {
+    place: usize,
+    start: usize,
+    parts: Place,
+}
+
+// What is looked for on the track: a record, or none.
+enum Sighted {
+    Seen(Spot),
+    Unseen,
+}
+
+// What comes next to a search: a count area, with the index passes up to it, or the index for the second time.
+enum Coming {
+    Area(Spot, usize),
+    Round,
+}
+
+// Whether a record has the address and the number.
+fn names(p: Place, a: Address, r: usize) -> bool
+    ensures { λ s. ⌜ s ≡ Rattle.position.specs.Spots.names a r p ⌝ }
+{
+    let at = p.at;
+    if !at.same(a) {
+        return false;
+    }
+    p.r == r
 }
 
 impl Drive {
@@ -137,5 +172,199 @@ impl Drive {
         ensures { λ r. ⌜ Standing (now (image .entry)) r ⌝ }
     {
         self.turned(image, FileMask::Set(m))
+    }
+
+    // Behind the count area (`passed`) or the whole of a record.
+    fn stepped(self, image: &[u8], x: Spot, passed: bool, passes: usize) -> Drive
+        requires { ⌜ Standing (now image) self ⌝ }
+        requires { ⌜ Spots (now image) self x ⌝ }
+        requires { ⌜ passes ≤ 1 ⌝ }
+        ensures { λ r. ⌜ driveOf r ≡ Abstract.behind (driveOf self) (x .place) passed passes ⌝ }
+        ensures { λ r. ⌜ Standing (now (image .entry)) r ⌝ }
+    {
+        let at = self.at;
+        let mask = self.mask;
+        let parts = x.parts;
+        Drive {
+            at: at,
+            found: self.found,
+            records: self.records,
+            next: x.place + 1,
+            here: parts.next,
+            behind: x.start,
+            passed: passed,
+            passes: passes,
+            mask: mask,
+        }
+    }
+
+    // ---- searches
+
+    // The count area that comes next: behind the last record the index, and then R0 again.
+    fn coming(self, image: &[u8]) -> Coming
+        requires { ⌜ Standing (now image) self ⌝ }
+        ensures { λ r. ⌜ Comes (now (image .entry)) self r ⌝ }
+    {
+        if !self.found {
+            return Coming::Round;
+        }
+        let here = self.here;
+        match pack::record_at(image, here) {
+            RecordAt::Located(p) => Coming::Area(
+                Spot {
+                    place: self.next,
+                    start: here,
+                    parts: p,
+                },
+                self.passes,
+            ),
+            RecordAt::NoRecord => self.round(image),
+        }
+    }
+
+    // The same at the index.
+    fn round(self, image: &[u8]) -> Coming
+        requires { ⌜ Standing (now image) self ⌝ }
+        requires { ⌜ self .found ≡ true ⌝ }
+        requires { ⌜ recordAt (now image) (self .here) ≡ NoRecord ⌝ }
+        ensures { λ r. ⌜ Comes (now (image .entry)) self r ⌝ }
+    {
+        if self.passes == 1 {
+            return Coming::Round;
+        }
+        let first = self.records;
+        let RecordAt::Located(p) = pack::record_at(image, first) else {
+            return Coming::Round;
+        };
+        Coming::Area(
+            Spot {
+                place: 0,
+                start: first,
+                parts: p,
+            },
+            1,
+        )
+    }
+
+    // One search ID equal for the five bytes of its argument.
+    pub fn examine(
+        self,
+        image: &[u8],
+        b0: usize,
+        b1: usize,
+        b2: usize,
+        b3: usize,
+        b4: usize,
+    ) -> Examined
+        requires { ⌜ Standing (now image) self ⌝ }
+        requires { ⌜ (b0 < 256) × (b1 < 256) × (b2 < 256) × (b3 < 256) × (b4 < 256) ⌝ }
+        ensures { λ r. ⌜ Examines (now (image .entry)) self (b0 ∷ b1 ∷ b2 ∷ b3 ∷ b4 ∷ []) r ⌝ }
+        ensures { λ r. ⌜ ExaminedStands (now (image .entry)) r ⌝ }
+    {
+        let Coming::Area(x, passes) = self.coming(image) else {
+            return Examined::Passed;
+        };
+        let a = Address {
+            cylinder: b0 * 256 + b1,
+            head: b2 * 256 + b3,
+        };
+        let parts = x.parts;
+        if names(parts, a, b4) {
+            return Examined::Equal(self.stepped(image, x, true, 0));
+        }
+        Examined::Unequal(self.stepped(image, x, true, passes))
+    }
+
+    // ---- reads
+
+    // The record behind R0.
+    fn second(self, image: &[u8]) -> Sighted
+        ensures { λ r. ⌜ Second (now (image .entry)) self r ⌝ }
+    {
+        let first = self.records;
+        let RecordAt::Located(zero) = pack::record_at(image, first) else {
+            return Sighted::Unseen;
+        };
+        let start = zero.next;
+        let RecordAt::Located(p) = pack::record_at(image, start) else {
+            return Sighted::Unseen;
+        };
+        Sighted::Seen(Spot {
+            place: 1,
+            start: start,
+            parts: p,
+        })
+    }
+
+    // The next record other than R0.
+    fn ahead(self, image: &[u8]) -> Sighted
+        ensures { λ r. ⌜ Ahead (now (image .entry)) self r ⌝ }
+    {
+        if self.next == 0 {
+            return self.second(image);
+        }
+        let here = self.here;
+        let RecordAt::Located(p) = pack::record_at(image, here) else {
+            return self.second(image);
+        };
+        Sighted::Seen(Spot {
+            place: self.next,
+            start: here,
+            parts: p,
+        })
+    }
+
+    // A read of the next record other than R0.
+    fn take_ahead(self, image: &[u8], just: bool, datas: bool) -> Taken
+        requires { ⌜ Standing (now image) self ⌝ }
+        requires { ⌜ self .found ≡ true ⌝ }
+        requires { ⌜ (just && self .passed) ≡ false ⌝ }
+        ensures { λ r. ⌜ TakesFor (now (image .entry)) self just datas r ⌝ }
+        ensures { λ r. ⌜ TakenStands (now (image .entry)) r ⌝ }
+    {
+        let Sighted::Seen(x) = self.ahead(image) else {
+            return Taken::Nothing;
+        };
+        let parts = x.parts;
+        Taken::Takes(parts, self.stepped(image, x, !datas, 0))
+    }
+
+    // A read of the record whose count area was just passed.
+    fn take_passed(self, image: &[u8], datas: bool) -> Taken
+        requires { ⌜ Standing (now image) self ⌝ }
+        requires { ⌜ self .found ≡ true ⌝ }
+        requires { ⌜ self .passed ≡ true ⌝ }
+        ensures { λ r. ⌜ TakesFor (now (image .entry)) self true datas r ⌝ }
+        ensures { λ r. ⌜ TakenStands (now (image .entry)) r ⌝ }
+    {
+        let behind = self.behind;
+        let RecordAt::Located(p) = pack::record_at(image, behind) else {
+            return Taken::Nothing;
+        };
+        let x = Spot {
+            place: self.next - 1,
+            start: behind,
+            parts: p,
+        };
+        Taken::Takes(p, self.stepped(image, x, !datas, 0))
+    }
+
+    // One read: `just` of 06 and 0E, which take the record whose count area was just passed; `datas` of reads that take the data,
+    // behind which no count area was just passed.
+    pub fn take(self, image: &[u8], just: bool, datas: bool) -> Taken
+        requires { ⌜ Standing (now image) self ⌝ }
+        ensures { λ r. ⌜ TakesFor (now (image .entry)) self just datas r ⌝ }
+        ensures { λ r. ⌜ TakenStands (now (image .entry)) r ⌝ }
+    {
+        if !self.found {
+            return Taken::Nothing;
+        }
+        if !just {
+            return self.take_ahead(image, just, datas);
+        }
+        if self.passed {
+            return self.take_passed(image, datas);
+        }
+        self.take_ahead(image, just, datas)
     }
 }
