@@ -52,7 +52,7 @@ says ts f h = by (recordIn ts (f .at) (f .r)) refl
         let z : _≡_ {A = ℕ} 0 1 = cc in absurd (omega arith)
     by (some x) q =
         let v : (leb 1 (f .displacement) && leb (f .displacement) (length (x .body))) ≡ true =
-          rw q at (and-right (ltb 0 (f .r)) (opt (recordIn ts (f .at) (f .r)) false (λ x. leb 1 (f .displacement) && leb (f .displacement) (length (x .body)))) h) in
+        rw q at (and-right (ltb 0 (f .r)) (opt (recordIn ts (f .at) (f .r)) false (λ x. leb 1 (f .displacement) && leb (f .displacement) (length (x .body)))) h) in
         record {
           from-one = ltb-true _ _ (and-left (ltb 0 (f .r)) _ h);
           taken = x;

@@ -76,9 +76,10 @@ module _ (a : Address) where
   unfolding member pick
   unseen seen q [] h m = tt
   unseen seen q (x ∷ xs) h m =
-      let f = first-sound seen x xs h in
-      (λ e. let v : false ≡ true = sym (f .1) ∙ rw e m in let z : _≡_ {A = ℕ} 0 1 = cc in omega arith,
-        unseen (x .r ∷ seen) q xs (f .2) (split (eqb (x .r) q) (λ e. rw e) (λ e. rw e m)))
+      let f = first-sound seen x xs h in (
+        λ e. let v : false ≡ true = sym (f .1) ∙ rw e m in let z : _≡_ {A = ℕ} 0 1 = cc in omega arith,
+        unseen (x .r ∷ seen) q xs (f .2) (split (eqb (x .r) q) (λ e. rw e) (λ e. rw e m)),
+      )
 
   apart : (seen : List ℕ) (xs : List Record) → soundRecords a seen xs ≡ true → Apart (map (λ (x : Record). x .r) xs)
   unfolding member pick

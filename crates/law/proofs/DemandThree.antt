@@ -46,7 +46,7 @@ module _ (g : Lending) (e : End) (b : Begins g) (p : Provided g e) where
       split (ticFirst (w .lent) (Chain 0))
       (λ q.
       let v : _≡_ {A = Result State End Cut} (ended (record { csw = cswAt (Chain 0) 0 0x20 0; sense = noSense; mask = initial .mask; storage = g .storage })) (ended e) =
-          rw q at (p .faultless) in
+      rw q at (p .faultless) in
       absurd (p .sound (rw (← (ended-is v)) refl)))
       (λ q. q)
 

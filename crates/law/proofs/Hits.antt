@@ -172,7 +172,7 @@ module _ (g : Lending) (b : Begins g) (inside : allInside (extentOf (g .extent))
     unfolding recordIn opt
     found-is =
         let e : recordIn (packOf (g .image)) (y .at) (y .r) ≡ some (fault-sound .2 .taken) =
-          ap₂ (recordIn (packOf (g .image))) (sym (fault-sound .0)) (sym (fault-sound .1)) ∙ fault-sound .2 .there in
+        ap₂ (recordIn (packOf (g .image))) (sym (fault-sound .0)) (sym (fault-sound .1)) ∙ fault-sound .2 .there in
         let u : trackIn (packOf (g .image)) (y .at) ≡ some (T .track) = rw at-is at track-there in
         let n : numbered (T .track .records) (y .r) ≡ some y = rw (T .record-is) at (number-finds (T .track .at) (T .track .records) (parts .2) (T .place) noRecord (T .below)) in
         let v : some y ≡ some (fault-sound .2 .taken) = rw (u, n) at e in

@@ -292,7 +292,7 @@ module _ (g : Lending) (b : Begins g) (inside : allInside (extentOf (g .extent))
         unfolding restartedRun restartedIn runFrom ticFirst isTic opt pick
         reaches n e =
             let r = resumes w (H .y .at) 0 (H .y .r) to st m counts (H .track) (H .place) d behind fs sought faultless
-                (λ x. execute-local w (first .program) (first .arguments) (Chain to) d x st tt) may (omega arith) n in
+            (λ x. execute-local w (first .program) (first .arguments) (Chain to) d x st tt) may (omega arith) n in
             rw (Commands.fetches w (H .y .at) 0 (H .y .r) to m counts .seek, ← e)
             (r .0 ∙ run-joins fs w (first .program) (first .arguments) n _ behind (r .1) (next-in z ends-in-chain))
 
@@ -361,7 +361,7 @@ module _ (g : Lending) (b : Begins g) (inside : allInside (extentOf (g .extent))
               mends-next ps z c left over u (resolve (w .lent) z (next z)) refl (resolve-in (w .lent) z (next z) (next-in z (ends-in-chain ps z c left over u)))
           by (stopped ps l) u =
               let v : _≡_ {A = Answer} (ends (checkedAt l (H .t .after) (store ps (H .t .bytes) (s .storage)))) (goes t) =
-                  sym (clean-is ∙ ap (settled (H .t .bytes) (H .t .after) (s .storage)) u) ∙ q in
+              sym (clean-is ∙ ap (settled (H .t .bytes) (H .t .after) (s .storage)) u) ∙ q in
               let x : _≡_ {A = ℕ} 0 1 = cc in absurd (omega arith)
 
   pub closes : (h : Named) (s : State) (e : End) → Fine s → flag fs w s ≡ some h → clean s ≡ ends e → Good e
