@@ -3,3 +3,4 @@ pub mod Answers
 pub mod Stored
 pub mod Walks
 pub mod InChain
+pub mod Shown

@@ -1,5 +1,8 @@
 -- Every cut of a reading that may begin is mended: closed where the faultless run ends there, restarted where it goes on.
 --   settled-ends, settled-goes   what a faultless read says by its answer
+--   areas-limit                  the command limit of a reading that may begin
+--   Good                         an end that is no program check
+--   Fine                         what holds before each command of the faultless run
 --   closes                       a cut where the faultless run ends
 --   mends                        a cut where it goes on
 use Prim.Native.Nat.{ℕ, zero, suc, _+_, _-_, _%_, _≤_, _<_}
@@ -29,11 +32,12 @@ use Rattle.channel.specs.declared.Location.{Location}
 use Rattle.channel.specs.declared.Location.the-variants.{Chain, Restart}
 use Rattle.channel.specs.declared.Fetched.{Fetched}
 use Rattle.channel.specs.declared.Fetched.the-variants.{Got, Broken}
-use Rattle.channel.specs.Ccw.{Lent, chainsCommand, isTic, next, fetchIn, fetch, resolve}
+use Rattle.channel.specs.Ccw.{chainsCommand, isTic, next, resolve}
 use Rattle.channel.specs.Store.{store}
 use Rattle.channel.specs.Walk.{Walk, walked, stopped, incorrectLength}
 use Rattle.channel.proofs.InChain.{InChain, FetchedIn, next-in, resolve-in, resolve-same}
 use Rattle.channel.proofs.Walks.{resolve-got}
+use Rattle.channel.proofs.Shown.{fetched-inside}
 use Rattle.drive.specs.declared.FileMask.{FileMask}
 use Rattle.drive.specs.declared.FileMask.the-variants.{Set}
 use Rattle.drive.specs.Drive as Drive
@@ -106,15 +110,7 @@ module _ (chain arguments storage image faults limit : ℕ) (h : runAreas chain 
       leb-true limit 4096 (and-right (leb 1 limit) (leb limit 4096)
       (and-right (chainFits chain && argumentsFit arguments && storageFits storage && imageFits image && faultsFit faults) (limitFits limit) h))
 
--- ---- the next CCW, the drive and the mask behind a read
-
--- a CCW that is fetched lies below the chain's end
-fetched-below : (p : Lent) (to : ℕ) (d : Ccw) → fetch p (Chain to) ≡ some d → to < length (p .chain)
-unfolding fetch fetchIn pick
-fetched-below p to d e =
-    split (leb (to + 8) (length (p .chain)) && eqb (to % 8) 0)
-    (λ q. let v = leb-true (to + 8) (length (p .chain)) (and-left (leb (to + 8) (length (p .chain))) (eqb (to % 8) 0) q) in omega arith)
-    (λ q. let v : _≡_ {A = Option Ccw} none (some d) = rw q at e in let z : _≡_ {A = ℕ} 0 1 = cc in absurd (omega arith))
+-- ---- the drive and the mask behind a read
 
 drive-is : (d e : Drive) (i : ℕ) (a : Address) → e ≡ Drive.behind d i false 0 → d .at ≡ a → e ≡ placed a (e .mask) (i + 1) false
 unfolding Drive.behind
@@ -278,7 +274,7 @@ module _ (g : Lending) (b : Begins g) (inside : allInside (extentOf (g .extent))
               comes = comes;
               held = got .0;
               plain = got .1;
-              in-chain = omega (arith, fetched-below (w .lent) to d (got .0), chain-short);
+              in-chain = omega (arith, fetched-inside (w .lent) (Chain to) d (got .0), chain-short);
               bit = not-not (bitOn 3 (d .command));
             }
 
