@@ -2,3 +2,4 @@ pub mod Genuine
 pub mod Hits
 pub mod Mending
 pub mod DemandThree
+pub mod Example
