@@ -71,6 +71,7 @@ module _ (image : List ℕ) (t : Track) (place start : ℕ) (s : StandsAt image 
         near = near;
         far = omega (arith, b .behind, b .in-order);
         bounds = w;
+        found = h;
       }
 
   pub ended : recordAt image start ≡ NoRecord → length (t .records) ≤ place

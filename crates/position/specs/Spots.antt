@@ -9,8 +9,9 @@ use Rattle.base.specs.Choice.{pick}
 use Rattle.address.specs.declared.Address.{Address}
 use Rattle.address.specs.Order.{same}
 use Rattle.pack.specs.declared.Place.{Place}
+use Rattle.pack.specs.declared.RecordAt.the-variants.{Located}
 use Rattle.pack.specs.Pack.{Track, packOf}
-use Rattle.pack.specs.Places.{recordFrom, Within}
+use Rattle.pack.specs.Places.{recordAt, recordFrom, Within}
 use Rattle.channel.specs.declared.Ccw.{Ccw}
 use Rattle.channel.specs.declared.Location.{Location}
 use Rattle.channel.specs.Ccw.{next}
@@ -34,6 +35,7 @@ pub record Spotted (image : List ℕ) (t : Track) (x : Spot) : Type 0 where
   pub near : x .place ≤ x .start
   pub far : x .start < x .parts .next
   pub bounds : Within image (x .parts)
+  pub found : recordAt image (x .start) ≡ Located (x .parts)
 
 -- a record of the drive's track
 abbrev pub Spots : List ℕ → Drive → Spot → Type 0

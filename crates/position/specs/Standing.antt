@@ -7,7 +7,8 @@ use mathlib.Core.List.{List}
 use lib.ListN.{length, drop}
 use Rattle.address.specs.declared.Address.{Address}
 use Rattle.pack.specs.Pack.{Record, Track, Decoded, decodeAt, packOf, trackIn}
-use Rattle.pack.specs.Places.{recordFrom, Within}
+use Rattle.pack.specs.declared.RecordAt.the-variants.{Located}
+use Rattle.pack.specs.Places.{recordAt, recordFrom, Within}
 use Rattle.channel.specs.declared.Ccw.{Ccw}
 use Rattle.channel.specs.declared.Location.{Location}
 use Rattle.channel.specs.Ccw.{Lent, next}
@@ -79,6 +80,7 @@ TakesFor image d just datas r =
     (l : Location) (c : Ccw) (st : List ℕ) (p : Lent) (k : Read) → k .just ≡ just → k .datas ≡ datas
     → planRead l c (driveOf d) st (packOf image) p k ≡ readPlan l c (driveOf d) st p k image r
 
+-- the drive behind a record, and where that record lies and was found
 abbrev pub TakenStands : List ℕ → Taken → Type 0
-TakenStands image (Takes x e) = Standing image e × Within image x
+TakenStands image (Takes x e) = Standing image e × Within image x × ((at : ℕ) × (recordAt image at ≡ Located x))
 TakenStands image Nothing = Unit {0}

@@ -32,7 +32,8 @@ returns-2 c =
     let start = c .before .before .before .before .before .before .before in
     let o = start .pre .0 .on (start .pre .1 .0) in
     let a = rw (c .before .before .before .x .given .1) at (c .before .before .before .before .before .ahead .ensures) in
-    (take-seen _ _ _ _ (o .0) (o .1) (start .pre .1 .1) _ (c .stepped .result) a (c .stepped .ensures .0), (c .stepped .ensures .1, a (o .0) (o .1) .0 .bounds))
+    let x = a (o .0) (o .1) .0 in
+    (take-seen _ _ _ _ (o .0) (o .1) (start .pre .1 .1) _ (c .stepped .result) a (c .stepped .ensures .0), (c .stepped .ensures .1, x .bounds, (_, x .found)))
 
 pub take-ahead-spec : {M : Type 1} → statement M
 take-ahead-spec =

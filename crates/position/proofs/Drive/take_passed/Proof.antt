@@ -42,8 +42,9 @@ returns-2 c =
     let call = c .before .before .before .before .before in
     let e = c .before .before .before .p .given .1 in
     let w = rw e at (call .record-at .ensures .1) in
-    let x = just-spot _ _ (o .0) (o .1) (start .pre .1 .1) _ (sym (call .record-at .ensures .0) ∙ e) w in
-    (take-just _ _ (o .0) (o .1) (start .pre .1 .1) _ _ (c .stepped .result) refl x (c .stepped .ensures .0), (c .stepped .ensures .1, w))
+    let found = sym (call .record-at .ensures .0) ∙ e in
+    let x = just-spot _ _ (o .0) (o .1) (start .pre .1 .1) _ found w in
+    (take-just _ _ (o .0) (o .1) (start .pre .1 .1) _ _ (c .stepped .result) refl x (c .stepped .ensures .0), (c .stepped .ensures .1, w, (_, found)))
 
 pub take-passed-spec : {M : Type 1} → statement M
 take-passed-spec =
