@@ -1,6 +1,6 @@
 // Bytes as numbers, numbers of several bytes, bits, and displacements. Numbers are big-endian; bit 0 of a byte is its highest.
 ghost use mathlib.Core.Path.{_≡_};
-ghost use Prim.Native.Nat.{_+_, _<_};
+ghost use Prim.Native.Nat.{_+_, _-_, _<_, _≤_};
 ghost use lib.ListN.{length, getD};
 ghost use Rattle.base.specs.Bytes.{be16At, be24At};
 ghost use Rattle.base.specs.Bits.{bitOn};
@@ -53,3 +53,13 @@ pub struct FromFront(pub usize);
 
 // A count of bytes back from the end of a data area.
 pub struct FromEnd(pub usize);
+
+impl FromEnd {
+    // The place that is so far before the end, counted from the front.
+    pub fn from_front(self, end: FromFront) -> FromFront
+        requires { ⌜ self .0 ≤ end .0 ⌝ }
+        ensures { λ r. ⌜ r .0 ≡ end .0 - self .0 ⌝ }
+    {
+        FromFront(end.0 - self.0)
+    }
+}

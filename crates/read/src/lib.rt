@@ -1,4 +1,6 @@
 // The bytes of a read, by their places in the image, and as they arrive from a faulted data area.
+use base::FromEnd;
+use base::FromFront;
 use drive::Read;
 use pack::Place;
 ghost use mathlib.Core.Path.{_≡_};
@@ -52,11 +54,11 @@ fn strike(bytes: &mut [u8], at: usize, x: u8)
 
 // The bytes of a read with a faulted data area, as they arrive: the three pattern bytes in them, from the displacement on,
 // which counts back from their end.
-pub fn arrive(bytes: &mut [u8], displacement: usize, p0: u8, p1: u8, p2: u8)
-    requires { ⌜ displacement ≤ length (now bytes) ⌝ }
-    ensures { λ _. ⌜ Arrives (now (bytes .entry)) displacement (p0 ∷ p1 ∷ p2 ∷ []) (now (bytes .exit)) ⌝ }
+pub fn arrive(bytes: &mut [u8], displacement: FromEnd, p0: u8, p1: u8, p2: u8)
+    requires { ⌜ displacement .0 ≤ length (now bytes) ⌝ }
+    ensures { λ _. ⌜ Arrives (now (bytes .entry)) (displacement .0) (p0 ∷ p1 ∷ p2 ∷ []) (now (bytes .exit)) ⌝ }
 {
-    let at = bytes.len() - displacement;
+    let at = displacement.from_front(FromFront(bytes.len())).0;
     strike(bytes, at, p0);
     strike(bytes, at + 1, p1);
     strike(bytes, at + 2, p2);

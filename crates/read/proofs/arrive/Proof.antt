@@ -1,13 +1,13 @@
 -- `read::arrive` meets its contract: what each call strikes is handed to the next. Assumes nothing.
-use mathlib.Core.Path.{ap, _∙_}
+use mathlib.Core.Path.{ap, sym, _∙_}
 use Rattle.read.specs.Pattern.{struckAt}
 use Rattle.read.proofs.Pattern.{arrived}
 use borrow.Author.Needs.{needs}
 use Rattle.read.proofs.arrive.Statement.{statement}
 use Rattle.read.proofs.arrive.Tie as tie
 
-sub-at : tie.Need-sub-at
-sub-at c = search needs
+from-front-requires : tie.Need-from-front-requires
+from-front-requires c κs = search needs
 
 strike-requires : tie.Need-strike-requires
 strike-requires c κs = search needs
@@ -32,15 +32,16 @@ returns c =
     let third = c .before .before in
     let second = third .before .before .before .before in
     let first = second .before .before .before .before in
-    let a = first .before .before .before .args in
-    arrived (a .p0) (a .p1) (a .p2) (a .bytes .now) _ (a .displacement)
-    (third .strike3 .ensures ∙ ap (struckAt _ (a .p2)) (second .strike2 .ensures ∙ ap (struckAt _ (a .p1)) (first .strike .ensures)))
+    let front = first .before .before in
+    let a = front .before .before .args in
+    arrived (a .p0) (a .p1) (a .p2) (a .bytes .now) _ (a .displacement .0)
+    (rw (← (front .from-front .ensures)) (third .strike3 .ensures ∙ ap (struckAt _ (a .p2)) (second .strike2 .ensures ∙ ap (struckAt _ (a .p1)) (first .strike .ensures))))
 
 pub arrive-spec : {M : Type 1} → statement M
 arrive-spec =
     tie.close
     (tie.spec
-    sub-at
+    from-front-requires
     strike-requires
     add-strike
     strike-requires-2
