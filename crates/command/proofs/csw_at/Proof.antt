@@ -1,0 +1,18 @@
+-- `command::csw_at` meets its contract: the address is the CCW's and 8. Assumes nothing.
+use Rattle.drive.specs.Step as Step
+use borrow.Author.Needs.{needs}
+use Rattle.command.proofs.csw_at.Statement.{statement}
+use Rattle.command.proofs.csw_at.Tie as tie
+
+address-of-requires : tie.Need-address-of-requires
+address-of-requires c κs = search needs
+
+add-t6 : tie.Need-add-t6
+add-t6 c = search needs
+
+returns : tie.Need-returns
+unfolding Step.cswAt
+returns c = rw (c .address-of .ensures)
+
+pub csw-at-spec : {M : Type 1} → statement M
+csw-at-spec = tie.close (tie.spec address-of-requires add-t6 returns)

@@ -1,0 +1,139 @@
+-- What a command comes to, as the code has it: the definitions' answers with storage apart.
+use Prim.Native.Nat.{ℕ, _<_}
+use mathlib.Core.Path.{_≡_}
+use mathlib.Core.Bool.{Bool, true, false}
+use mathlib.Core.List.{List, [], _∷_}
+use Rattle.base.specs.Bytes.{be16At}
+use Rattle.address.specs.declared.Address.{Address}
+use Rattle.address.specs.Order.{lastCylinder}
+use Rattle.pack.specs.Pack.{packOf}
+use Rattle.machine.specs.Machine.{goes, ends, cuts}
+use Rattle.channel.specs.declared.Ccw.{Ccw}
+use Rattle.channel.specs.declared.Location.{Location}
+use Rattle.channel.specs.Ccw.{Lent, addressOf, argument}
+use Rattle.drive.specs.declared.Command.{Command}
+use Rattle.drive.specs.declared.Command.the-variants.{NoOperation, Seek, SetMask, SetSector, SearchId, ReadHome, ReadRecord, Unlisted}
+use Rattle.drive.specs.Drive as Abstract
+use Rattle.drive.specs.Step as Step
+use Rattle.position.specs.declared.Drive.{Drive}
+use Rattle.position.specs.declared.Examined.{Examined}
+use Rattle.position.specs.Standing.{driveOf, Standing, ExaminedStands}
+use Rattle.command.specs.declared.Check.{Check}
+use Rattle.command.specs.declared.Check.the-variants.{Rejected, NotFound, Protected}
+use Rattle.command.specs.declared.Status.{Status}
+use Rattle.command.specs.declared.Status.the-variants.{Quiet, Refused}
+use Rattle.command.specs.declared.State.{State}
+use Rattle.command.specs.declared.End.{End}
+use Rattle.command.specs.declared.Cut.{Cut}
+use Rattle.command.specs.declared.Answer.{Answer}
+use Rattle.command.specs.declared.Answer.the-variants.{Goes, Ends, Cuts}
+
+abbrev pub checkOf : Check → Step.Check
+checkOf Rejected = Step.rejected
+checkOf NotFound = Step.notFound
+checkOf Protected = Step.protected
+
+-- the sense bytes of an end that no faulted data area made
+abbrev pub senseOf : Status → List ℕ
+senseOf Quiet = Step.noSense
+senseOf (Refused k) = Step.checkSense (checkOf k)
+
+abbrev pub stateOf : State → List ℕ → Step.State
+stateOf s st = record { at = s .at; last = s .last; left = s .left; drive = driveOf (s .drive); storage = st }
+
+abbrev pub endOf : End → List ℕ → Step.End
+endOf e st = record { csw = e .csw; sense = senseOf (e .status); mask = e .mask; storage = st }
+
+abbrev pub cutOf : Cut → List ℕ → Step.Cut
+cutOf k st = record {
+  at = k .at;
+  r = k .r;
+  restart = k .restart;
+  error = k .error;
+  pattern = k .pattern0 ∷ k .pattern1 ∷ k .pattern2 ∷ [];
+  over = k .over;
+  first = k .first;
+  mask = k .mask;
+  csw = k .csw;
+  storage = st;
+}
+
+-- a command's answer, with storage behind it
+abbrev pub answerOf : Answer → List ℕ → Step.Answer
+answerOf (Goes s) st = goes (stateOf s st)
+answerOf (Ends e) st = ends (endOf e st)
+answerOf (Cuts k) st = cuts (cutOf k st)
+
+-- an answer of the definitions for every storage, which leaves storage as it is
+abbrev pub Answers : (List ℕ → Step.Answer) → Answer → Type 0
+Answers f r = (st : List ℕ) → f st ≡ answerOf r st
+
+-- ---- what is kept from command to command
+
+-- an address that a CSW can show
+abbrev pub Low : Location → Type 0
+Low l = addressOf l < 0x10000
+
+-- The drive stands in the image; the CCW that was fetched last has an address that a CSW can show.
+abbrev pub Kept : List ℕ → Answer → Type 0
+Kept image (Goes s) = Standing image (s .drive) × Low (s .last)
+Kept image (Ends e) = Unit {0}
+Kept image (Cuts k) = Unit {0}
+
+-- in every image
+abbrev pub KeptAlways : Answer → Type 0
+KeptAlways r = (image : List ℕ) → Kept image r
+
+-- in every image in which the drive stands
+abbrev pub KeptWith : Drive → Answer → Type 0
+KeptWith d r = (image : List ℕ) → Standing image d → Kept image r
+
+-- in every image in which the drive stands behind a search
+abbrev pub KeptBehind : Examined → Answer → Type 0
+KeptBehind x r = (image : List ℕ) → ExaminedStands image x → Kept image r
+
+-- ---- control and search commands
+
+-- the same of a plan
+abbrev pub Plans : (List ℕ → Step.Plan) → Answer → Type 0
+Plans plan r = (st : List ℕ) → plan st ≡ Step.answer (answerOf r st)
+
+-- what a run is told, in terms of the bytes that are lent to it
+abbrev pub settingOf : Lent → List ℕ → Step.Setting
+settingOf p image = record { last = lastCylinder; pack = packOf image; lent = p }
+
+-- The command k of the CCW c at l, on the drive d: it leaves storage as it is, whatever that is.
+abbrev pub Performs : List ℕ → List ℕ → List ℕ → Location → Ccw → Command → Abstract.Drive → Answer → Type 0
+Performs arguments restarts image l c k d r =
+    (p : Lent) (st : List ℕ) → p .arguments ≡ arguments → p .restartArguments ≡ restarts
+    → Step.perform (settingOf p image) l c d st k ≡ Step.answer (answerOf r st)
+
+-- two bytes of a CCW's argument
+abbrev pub ArgumentWord : List ℕ → List ℕ → Location → Ccw → ℕ → ℕ → Type 0
+ArgumentWord s r l c k n = (p : Lent) → p .arguments ≡ s → p .restartArguments ≡ r → n ≡ be16At (argument p l c) k
+
+-- every seek whose argument begins with the number n, which must be 0, and names the track a
+abbrev pub Seeks : ℕ → Address → Location → Ccw → Abstract.Drive → Answer → Type 0
+Seeks n a l c d r = (g : List ℕ) → be16At g 0 ≡ n → Step.sought g ≡ a → Plans (λ st. Step.planSeek l c d st lastCylinder g) r
+
+-- the commands that move no byte of storage
+unfoldable pub moveless : Command → Bool
+moveless NoOperation = true
+moveless Seek = true
+moveless SetMask = true
+moveless SetSector = true
+moveless SearchId = true
+moveless ReadHome = false
+moveless (ReadRecord k) = false
+moveless Unlisted = true
+
+-- those that have an argument
+unfoldable pub argues : Command → Bool
+argues NoOperation = false
+argues Seek = true
+argues SetMask = true
+argues SetSector = true
+argues SearchId = true
+argues ReadHome = false
+argues (ReadRecord k) = false
+argues Unlisted = false
