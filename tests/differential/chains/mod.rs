@@ -7,31 +7,12 @@ mod plan;
 mod restart;
 mod scatter;
 
+pub use crate::cases::{Lent as GeneratedRun, Restart as GeneratedRestart};
 use crate::random::Random;
 use crate::simulator::channel::Restart;
 use crate::simulator::run::{run, run_restarted, Lent, Outcome};
 use crate::simulator::{Refusal, LAST_CYLINDER};
 use ground::Ground;
-
-/// The areas and the limit of a run.
-#[derive(Clone, Debug, PartialEq, Eq)]
-pub struct GeneratedRun {
-    pub chain: Vec<u8>,
-    pub arguments: Vec<u8>,
-    pub storage: Vec<u8>,
-    pub image: Vec<u8>,
-    pub faults: Vec<u8>,
-    /// The chain's; a restarted run has its own.
-    pub limit: usize,
-    pub restart: Option<GeneratedRestart>,
-}
-
-/// The areas that a restarted run has besides.
-#[derive(Clone, Debug, PartialEq, Eq)]
-pub struct GeneratedRestart {
-    pub program: Vec<u8>,
-    pub arguments: Vec<u8>,
-}
 
 impl GeneratedRun {
     fn of(random: &mut Random, ground: Ground, chain: Vec<u8>, arguments: Vec<u8>) -> GeneratedRun {
