@@ -146,7 +146,7 @@ pub fn onward(l: Location, to: Location, c: Ccw, left: usize, d: Drive) -> Answe
 }
 
 // The CCW behind one, or behind the one behind it.
-fn behind(l: Location) -> Location
+pub fn behind(l: Location) -> Location
     requires { ⌜ addressOf l < 0x20000 ⌝ }
     ensures { λ r. ⌜ r ≡ next l ⌝ }
 {

@@ -1,0 +1,51 @@
+-- `settle::faulted` meets its contract: by how the data chain ended. Assumes nothing.
+use Rattle.settle.proofs.Ends.{checked-low, ended-low, faulted-checked, faulted-ended}
+use borrow.Author.Needs.{needs}
+use Rattle.settle.proofs.faulted.Statement.{statement}
+use Rattle.settle.proofs.faulted.Tie as tie
+
+enum-known-m : tie.Need-enum-known-m
+enum-known-m c = search needs
+
+program-check-requires : tie.Need-program-check-requires
+program-check-requires c κs = checked-low _ _ (c .before .m .given .1) (c .before .before .before .pre)
+
+returns : tie.Need-returns
+returns c =
+    let given = c .before .before .before .before .args in
+    (faulted-checked (given .d) _ (c .program-check .result) _ (c .before .before .m .given .1) (c .program-check .ensures .0) _ (given .p) _ _, c .program-check .ensures .1)
+
+enum-known-m-2 : tie.Need-enum-known-m-2
+enum-known-m-2 c = search needs
+
+incorrect-length-requires : tie.Need-incorrect-length-requires
+incorrect-length-requires c κs = search needs
+
+length-status-requires : tie.Need-length-status-requires
+length-status-requires c κs = search needs
+
+csw-at-requires : tie.Need-csw-at-requires
+csw-at-requires c κs =
+    let m = c .before .before .before .before .m2 .given in
+    ended-low _ _ _ _ _ (m .1) (c .before .before .before .before .before .before .pre)
+
+returns-2 : tie.Need-returns-2
+returns-2 c =
+    let status = c .before .before .length-status in
+    let wrong = c .before .before .before .incorrect-length in
+    let m = c .before .before .before .before .before .m2 .given in
+    let given = c .before .before .before .before .before .before .before .args in
+    (faulted-ended (given .d) _ _ _ _ _ (m .1) (wrong .result) (status .result) _ (wrong .ensures) (status .ensures) _ (given .p) _ _ (c .csw-at .ensures), λ image. tt)
+
+pub faulted-spec : {M : Type 1} → statement M
+faulted-spec =
+    tie.close
+    (tie.spec
+    enum-known-m
+    program-check-requires
+    returns
+    enum-known-m-2
+    incorrect-length-requires
+    length-status-requires
+    csw-at-requires
+    returns-2)

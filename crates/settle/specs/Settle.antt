@@ -1,0 +1,44 @@
+-- What a read comes to, by how its data chain ended. Where its bytes went is told apart, by any places ps.
+use Prim.Native.Nat.{ℕ}
+use mathlib.Core.Path.{_≡_}
+use mathlib.Core.Option.{Option}
+use mathlib.Core.List.{List}
+use lib.ListN.{length}
+use Rattle.faults.specs.Faults.{Fault}
+use Rattle.faults.specs.declared.Listed.{Listed}
+use Rattle.faults.specs.FaultAt.{faultFrom}
+use Rattle.pack.specs.Pack.{Record}
+use Rattle.pack.specs.declared.Place.{Place}
+use Rattle.channel.specs.declared.Location.{Location}
+use Rattle.channel.specs.Store.{store}
+use Rattle.channel.specs.Walk.{Walk, walked, stopped}
+use Rattle.transfer.specs.declared.Moved.{Moved}
+use Rattle.transfer.specs.declared.Moved.the-variants.{Ended, Checked}
+use Rattle.drive.specs.Drive as Abstract
+use Rattle.drive.specs.Step as Step
+use Rattle.command.specs.declared.Answer.{Answer}
+use Rattle.command.specs.Answer.{answerOf, Low}
+
+-- the walk that ended so
+abbrev pub walkOf : List (Option ℕ) → Moved → Walk
+walkOf ps (Ended l c left over) = walked ps l c left over
+walkOf ps (Checked l) = stopped ps l
+
+-- a CSW can show the CCW that the read ended with
+abbrev pub LowMoved : Moved → Type 0
+LowMoved (Ended l c left over) = Low l
+LowMoved (Checked l) = Low l
+
+-- a read without fault, with the drive behind it
+abbrev pub Settles : Abstract.Drive → Moved → Answer → Type 0
+Settles d m r = (ps : List (Option ℕ)) (bs st : List ℕ) → Step.settled bs d st (walkOf ps m) ≡ answerOf r (store ps bs st)
+
+-- a read of a data area of length 0
+abbrev pub Excepts : Abstract.Drive → Moved → Answer → Type 0
+Excepts d m r = (ps : List (Option ℕ)) (bs st : List ℕ) → Step.excepted bs d st (walkOf ps m) ≡ answerOf r (store ps bs st)
+
+-- a read of n bytes that ends with the faulted data area of the record at a place
+abbrev pub Strikes : Location → Place → Listed → ℕ → Abstract.Drive → Moved → Answer → Type 0
+Strikes first p f n d m r =
+    (ps : List (Option ℕ)) (x : Record) (bs st : List ℕ) → x .at ≡ p .at → x .r ≡ p .r → length bs ≡ n
+    → Step.faulted first x (faultFrom f) bs d st (walkOf ps m) ≡ answerOf r (store ps (Step.arriving bs (faultFrom f)) st)
