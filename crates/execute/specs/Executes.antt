@@ -6,10 +6,20 @@ use mathlib.Core.Option.{some}
 use mathlib.Core.List.{List}
 use lib.ListN.{length}
 use Rattle.address.specs.Order.{lastCylinder}
-use Rattle.pack.specs.Pack.{packOf}
+use Rattle.pack.specs.declared.Place.{Place}
+use Rattle.pack.specs.Pack.{Record, packOf}
+use Rattle.pack.specs.Places.{recordFrom}
 use Rattle.image.specs.Image.{wellFormed}
+use Rattle.faults.specs.declared.Listed.{Listed}
 use Rattle.faults.specs.Faults.{Fault, faultsAt, soundFaults}
+use Rattle.faults.specs.FaultAt.{faultFrom}
+use Rattle.channel.specs.declared.Ccw.{Ccw}
+use Rattle.channel.specs.declared.Location.{Location}
 use Rattle.channel.specs.Ccw.{Lent}
+use Rattle.channel.specs.Fetch.{InBytes, Inside}
+use Rattle.channel.specs.Walk.{Walk, walk, readable}
+use Rattle.drive.specs.declared.Read.{Read}
+use Rattle.drive.specs.Drive as Abstract
 use Rattle.drive.specs.Step as Step
 use Rattle.command.specs.declared.State.{State}
 use Rattle.command.specs.declared.Answer.{Answer}
@@ -19,9 +29,13 @@ use Rattle.command.specs.Answer.{stateOf, answerOf, settingOf}
 abbrev pub lentOf : (chain arguments program restarts : List ℕ) → Lent
 lentOf chain arguments program restarts = record { chain = chain; arguments = arguments; program = program; restartArguments = restarts }
 
--- What questions 1, 2 and 3 found: the areas that CCWs stand in are short, so that every address fits a CSW; image and fault list are sound.
+-- The areas that CCWs stand in are short, so that every address fits a CSW.
+abbrev pub Short : (chain program : List ℕ) → Type 0
+Short chain program = (length chain ≤ 2048) × (length program ≤ 64)
+
+-- What questions 1, 2 and 3 found.
 pub record Begun (chain program image faults : List ℕ) : Type 0 where
-  pub short : (length chain ≤ 2048) × (length program ≤ 64)
+  pub short : Short chain program
   pub whole : wellFormed lastCylinder image ≡ true
   pub listed : (fs : List Fault) × (faultsAt faults 0 ≡ some fs) × (soundFaults (packOf image) fs ≡ true)
 
@@ -30,3 +44,38 @@ abbrev pub Steps : (chain arguments program restarts image faults : List ℕ) �
 Steps chain arguments program restarts image faults s st r after =
     (fs : List Fault) → faultsAt faults 0 ≡ some fs
     → Step.step fs (settingOf (lentOf chain arguments program restarts) image) (stateOf s st) ≡ answerOf r after
+
+-- ---- the CCW c at l, once it is fetched
+
+abbrev pub Executes : (chain arguments program restarts image faults : List ℕ) → Location → Ccw → Abstract.Drive → List ℕ → Answer → List ℕ → Type 0
+Executes chain arguments program restarts image faults l c d st r after =
+    (fs : List Fault) → faultsAt faults 0 ≡ some fs
+    → Step.carry fs st (Step.execute (settingOf (lentOf chain arguments program restarts) image) l c d st) ≡ answerOf r after
+
+-- a read may use it
+pub record Ready (chain program st : List ℕ) (l : Location) (c : Ccw) : Type 0 where
+  pub inside : Inside chain program l
+  pub bytes : InBytes c
+  pub range : readable (length st) c ≡ true
+  pub short : Short chain program
+
+-- ---- reads: they see the chain and the restart program alone
+
+-- what f makes of the walk of n bytes
+abbrev pub Ends : (chain program : List ℕ) → Location → Ccw → ℕ → List ℕ → (Walk → Step.Answer) → Answer → List ℕ → Type 0
+Ends chain program l c n st f r after =
+    (p : Lent) → p .chain ≡ chain → p .program ≡ program → f (walk p (length st) n l c (c .count) (c .address)) ≡ answerOf r after
+
+-- what a plan comes to
+abbrev pub Carries : (chain program faults : List ℕ) → List ℕ → (Lent → Step.Plan) → Answer → List ℕ → Type 0
+Carries chain program faults st plan r after =
+    (p : Lent) (fs : List Fault) → p .chain ≡ chain → p .program ≡ program → faultsAt faults 0 ≡ some fs → Step.carry fs st (plan p) ≡ answerOf r after
+
+-- bytes that end with the faulted data area of the record at a place
+abbrev pub Struck : (chain program : List ℕ) → Location → Ccw → List ℕ → Place → Listed → Abstract.Drive → List ℕ → Answer → List ℕ → Type 0
+Struck chain program l c bs x f e st r after =
+    (y : Record) → y .at ≡ x .at → y .r ≡ x .r → Ends chain program l c (length bs) st (Step.faulted l y (faultFrom f) bs e st) r after
+
+-- the record at a place, with the drive behind it
+abbrev pub planOf : Location → Ccw → Abstract.Drive → List ℕ → (image : List ℕ) → Read → Place → Abstract.Drive → Lent → Step.Plan
+planOf l c d st image k x e p = Step.planTransfer l c d st p (Step.bytesOf k (recordFrom image x)) (Step.areaOf k (recordFrom image x)) e

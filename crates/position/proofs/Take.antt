@@ -5,6 +5,7 @@
 --   take-just      the record whose count area was just passed
 --   just-spot      where that record stands
 --   just-there     it is always there
+--   belongs        a record that was sighted is one of the track
 --   not-just, not-passed, as-just      by what the code tests
 use Prim.Native.Nat.{ℕ, _-_, _<_, _≤_}
 use native.Mathlib.Omega.{arith}
@@ -27,7 +28,7 @@ use Rattle.position.specs.declared.Spot.{Spot}
 use Rattle.position.specs.declared.Sighted.the-variants.{Seen, Unseen}
 use Rattle.position.specs.declared.Taken.{Taken}
 use Rattle.position.specs.declared.Taken.the-variants.{Takes, Nothing}
-use Rattle.position.specs.Standing.{driveOf, OnTrack, TakesFor}
+use Rattle.position.specs.Standing.{driveOf, OnTrack, TakesFor, Belongs}
 use Rattle.position.specs.Spots.{Spotted, Ahead}
 use Rattle.position.proofs.Places.{spotAt, spotted, ended}
 
@@ -74,6 +75,9 @@ module _ (image : List ℕ) (d : Drive) (t : Track) (o : OnTrack image d t) (h :
       let w = o .within in
       let n : 0 < d .next = j .0 in
       absurd (omega arith)
+
+pub belongs : (image : List ℕ) (d : Drive) (t : Track) → OnTrack image d t → (x : Spot) → Spotted image t x → Belongs image (x .parts)
+belongs image d t o x s = record { address = d .at; track = t; place = x .place; there = o .there; inside = s .inside; is = s .is }
 
 -- ---- by what the code tests
 

@@ -4,9 +4,10 @@ use mathlib.Core.Path.{_≡_}
 use mathlib.Core.Bool.{Bool, true, false}
 use mathlib.Core.Option.{none, some}
 use mathlib.Core.List.{List}
-use lib.ListN.{length, drop}
+use lib.ListN.{length, getD, drop}
 use Rattle.address.specs.declared.Address.{Address}
 use Rattle.pack.specs.Pack.{Record, Track, Decoded, decodeAt, packOf, trackIn}
+use Rattle.pack.specs.declared.Place.{Place}
 use Rattle.pack.specs.declared.RecordAt.the-variants.{Located}
 use Rattle.pack.specs.Places.{recordAt, recordFrom, Within}
 use Rattle.channel.specs.declared.Ccw.{Ccw}
@@ -80,7 +81,16 @@ TakesFor image d just datas r =
     (l : Location) (c : Ccw) (st : List ℕ) (p : Lent) (k : Read) → k .just ≡ just → k .datas ≡ datas
     → planRead l c (driveOf d) st (packOf image) p k ≡ readPlan l c (driveOf d) st p k image r
 
--- the drive behind a record, and where that record lies and was found
+-- a place in the image is that of a record of a track
+pub record Belongs (image : List ℕ) (x : Place) : Type 0 where
+  pub address : Address
+  pub track : Track
+  pub place : ℕ
+  pub there : trackIn (packOf image) address ≡ some track
+  pub inside : place < length (track .records)
+  pub is : getD (track .records) place Abstract.noRecord ≡ recordFrom image x
+
+-- the drive behind a record, where that record lies and was found, and whose it is
 abbrev pub TakenStands : List ℕ → Taken → Type 0
-TakenStands image (Takes x e) = Standing image e × Within image x × ((at : ℕ) × (recordAt image at ≡ Located x))
+TakenStands image (Takes x e) = Standing image e × Within image x × ((at : ℕ) × (recordAt image at ≡ Located x)) × Belongs image x
 TakenStands image Nothing = Unit {0}

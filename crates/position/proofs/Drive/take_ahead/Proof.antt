@@ -1,6 +1,6 @@
 -- `Drive::take_ahead` meets its contract: the next record other than R0, or no record found. Assumes nothing.
 use native.Mathlib.Omega.{arith}
-use Rattle.position.proofs.Take.{take-seen, take-unseen}
+use Rattle.position.proofs.Take.{belongs, take-seen, take-unseen}
 use borrow.Author.Needs.{needs}
 use Rattle.position.proofs.Drive.take_ahead.Statement.{statement}
 use Rattle.position.proofs.Drive.take_ahead.Tie as tie
@@ -33,7 +33,7 @@ returns-2 c =
     let o = start .pre .0 .on (start .pre .1 .0) in
     let a = rw (c .before .before .before .x .given .1) at (c .before .before .before .before .before .ahead .ensures) in
     let x = a (o .0) (o .1) .0 in
-    (take-seen _ _ _ _ (o .0) (o .1) (start .pre .1 .1) _ (c .stepped .result) a (c .stepped .ensures .0), (c .stepped .ensures .1, x .bounds, (_, x .found)))
+    (take-seen _ _ _ _ (o .0) (o .1) (start .pre .1 .1) _ (c .stepped .result) a (c .stepped .ensures .0), (c .stepped .ensures .1, x .bounds, (_, x .found), belongs _ _ (o .0) (o .1) _ x))
 
 pub take-ahead-spec : {M : Type 1} → statement M
 take-ahead-spec =

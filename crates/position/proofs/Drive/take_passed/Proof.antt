@@ -1,7 +1,7 @@
 -- `Drive::take_passed` meets its contract: the record stands where the drive passed it. Assumes nothing.
 use native.Mathlib.Omega.{arith}
 use mathlib.Core.Path.{refl, sym, _∙_}
-use Rattle.position.proofs.Take.{just-spot, take-just, just-there}
+use Rattle.position.proofs.Take.{belongs, just-spot, take-just, just-there}
 use borrow.Author.Needs.{needs}
 use Rattle.position.proofs.Drive.take_passed.Statement.{statement}
 use Rattle.position.proofs.Drive.take_passed.Tie as tie
@@ -44,7 +44,7 @@ returns-2 c =
     let w = rw e at (call .record-at .ensures .1) in
     let found = sym (call .record-at .ensures .0) ∙ e in
     let x = just-spot _ _ (o .0) (o .1) (start .pre .1 .1) _ found w in
-    (take-just _ _ (o .0) (o .1) (start .pre .1 .1) _ _ (c .stepped .result) refl x (c .stepped .ensures .0), (c .stepped .ensures .1, w, (_, found)))
+    (take-just _ _ (o .0) (o .1) (start .pre .1 .1) _ _ (c .stepped .result) refl x (c .stepped .ensures .0), (c .stepped .ensures .1, w, (_, found), belongs _ _ (o .0) (o .1) _ x))
 
 pub take-passed-spec : {M : Type 1} → statement M
 take-passed-spec =

@@ -1,0 +1,68 @@
+-- `execute::struck` meets its contract: the bytes as they arrive, their way, then how it settled. Assumes nothing.
+use Rattle.execute.proofs.Moves.{moved-low, ended-so, front-length}
+use native.Mathlib.Omega.{arith}
+use mathlib.Core.Path.{_≡_, refl, ap, sym, _∙_}
+use lib.ListN.{length, take, drop, length-take}
+use Rattle.faults.specs.FaultAt.{faultFrom}
+use Rattle.channel.specs.Store.{store}
+use Rattle.drive.specs.Step as Step
+use Rattle.position.specs.Standing.{driveOf}
+use Rattle.command.specs.Answer.{answerOf}
+use borrow.Author.Needs.{needs}
+use Rattle.execute.proofs.struck.Statement.{statement}
+use Rattle.execute.proofs.struck.Tie as tie
+
+slice-aggregate-arrive : tie.Need-slice-aggregate-arrive
+slice-aggregate-arrive c = search needs
+
+arrive-requires : tie.Need-arrive-requires
+arrive-requires c κs = search needs
+
+array-share-prefix-held : tie.Need-array-share-prefix-held
+array-share-prefix-held c = search needs
+
+slice-aggregate-transfer : tie.Need-slice-aggregate-transfer
+slice-aggregate-transfer c =
+    let start = c .before .before .before .before .before .before .before .before in
+    sym (front-length _ (c .before .before .arrive .last .0) 16384 (c .before .before .arrive .ensures .1) (start .pre .1 .0))
+
+transfer-requires : tie.Need-transfer-requires
+transfer-requires c κs =
+    let start = c .before .before .before .before .before .before .before .before .before in
+    let n = front-length _ (c .before .before .before .arrive .last .0) 16384 (c .before .before .before .arrive .ensures .1) (start .pre .1 .0) in
+    let ready = start .pre .0 in
+    (ready .inside, (ready .bytes, (ready .range, omega (arith, n, start .pre .1 .0))))
+
+faulted-requires : tie.Need-faulted-requires
+faulted-requires c κs = moved-low _ _ _ _ _ _ _ (c .before .before .transfer .result) (c .before .before .transfer .ensures) (c .before .before .before .before .before .before .before .before .before .before .before .before .pre .0)
+
+same-length : tie.Need-same-length
+same-length c = search needs
+
+returns : tie.Need-returns
+returns c =
+    let start = c .before .before .before .before .before .before .before .before .before .before .before .before .before in
+    let a = start .args in
+    let arrive = c .before .before .before .before .before .before .before .arrive in
+    let move = c .before .before .before .transfer in
+    let n = front-length _ (arrive .last .0) 16384 (arrive .ensures .1) (start .pre .1 .0) in
+    (
+      λ y g h.
+      ended-so _ _ _ _ (take (length (a .bytes .now)) (arrive .last .0)) (a .storage .now) _ (move .result) (move .ensures) _
+      (Step.faulted (a .l) y (faultFrom (a .f)) (a .bytes .now) (driveOf (a .e)) (a .storage .now)) (c .faulted .result) n
+      (λ ps. c .faulted .ensures .0 ps y (a .bytes .now) (a .storage .now) g h refl ∙ ap (λ s. answerOf (c .faulted .result) (store ps s (a .storage .now))) (sym (arrive .ensures .0))),
+      c .faulted .ensures .1,
+    )
+
+pub struck-spec : {M : Type 1} → statement M
+struck-spec =
+    tie.close
+    (tie.spec
+    slice-aggregate-arrive
+    arrive-requires
+    array-share-prefix-held
+    slice-aggregate-transfer
+    transfer-requires
+    faulted-requires
+    same-length
+    returns)
