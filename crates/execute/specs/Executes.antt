@@ -1,5 +1,5 @@
 -- One command of a run, as the code does it: what it is lent, what holds before it, and what it comes to.
-use Prim.Native.Nat.{ℕ, _≤_}
+use Prim.Native.Nat.{ℕ, _-_, _≤_}
 use mathlib.Core.Path.{_≡_}
 use mathlib.Core.Bool.{true}
 use mathlib.Core.Option.{some}
@@ -8,10 +8,11 @@ use lib.ListN.{length}
 use Rattle.address.specs.Order.{lastCylinder}
 use Rattle.pack.specs.declared.Place.{Place}
 use Rattle.pack.specs.Pack.{Record, packOf}
-use Rattle.pack.specs.Places.{recordFrom}
+use Rattle.pack.specs.declared.RecordAt.the-variants.{Located}
+use Rattle.pack.specs.Places.{recordAt, Within}
 use Rattle.image.specs.Image.{wellFormed}
 use Rattle.faults.specs.declared.Listed.{Listed}
-use Rattle.faults.specs.Faults.{Fault, faultsAt, soundFaults}
+use Rattle.faults.specs.Faults.{Fault, faultsAt, naming, soundFaults}
 use Rattle.faults.specs.FaultAt.{faultFrom}
 use Rattle.channel.specs.declared.Ccw.{Ccw}
 use Rattle.channel.specs.declared.Location.{Location}
@@ -21,6 +22,7 @@ use Rattle.channel.specs.Walk.{Walk, walk, readable}
 use Rattle.drive.specs.declared.Read.{Read}
 use Rattle.drive.specs.Drive as Abstract
 use Rattle.drive.specs.Step as Step
+use Rattle.position.specs.Standing.{Belongs}
 use Rattle.command.specs.declared.State.{State}
 use Rattle.command.specs.declared.Answer.{Answer}
 use Rattle.command.specs.Answer.{stateOf, answerOf, settingOf}
@@ -76,6 +78,32 @@ abbrev pub Struck : (chain program : List ℕ) → Location → Ccw → List ℕ
 Struck chain program l c bs x f e st r after =
     (y : Record) → y .at ≡ x .at → y .r ≡ x .r → Ends chain program l c (length bs) st (Step.faulted l y (faultFrom f) bs e st) r after
 
--- the record at a place, with the drive behind it
-abbrev pub planOf : Location → Ccw → Abstract.Drive → List ℕ → (image : List ℕ) → Read → Place → Abstract.Drive → Lent → Step.Plan
-planOf l c d st image k x e p = Step.planTransfer l c d st p (Step.bytesOf k (recordFrom image x)) (Step.areaOf k (recordFrom image x)) e
+-- where a record that the drive takes lies
+pub record Lies (image : List ℕ) (x : Place) : Type 0 where
+  pub within : Within image x
+  pub found : (at : ℕ) × (recordAt image at ≡ Located x)
+  pub belongs : Belongs image x
+
+-- a fault that names the record lies in the n bytes of a read that takes its data
+abbrev pub FaultsInside : List ℕ → Read → Place → ℕ → Type 0
+FaultsInside faults k x n =
+    (fs : List Fault) × (faultsAt faults 0 ≡ some fs) × ((f : Fault) → k .datas ≡ true → naming fs (x .at) (x .r) ≡ some f → f .displacement ≤ n)
+
+-- the plan of a read of a record, with the drive e behind it
+abbrev pub planOf : Location → Ccw → Abstract.Drive → List ℕ → Read → Record → Abstract.Drive → Lent → Step.Plan
+planOf l c d st k y e p = Step.planTransfer l c d st p (Step.bytesOf k y) (Step.areaOf k y) e
+
+-- a read of any record that a place may stand for, and whose bytes are bs
+abbrev pub ReadsBytes : (chain program faults : List ℕ) → Location → Ccw → Read → Place → List ℕ → Abstract.Drive → List ℕ → Answer → List ℕ → Type 0
+ReadsBytes chain program faults l c k x bs e st r after =
+    (y : Record) → y .at ≡ x .at → y .r ≡ x .r → length (y .body) ≡ x .next - x .body → Step.bytesOf k y ≡ bs
+    → Carries chain program faults st (planOf l c e st k y e) r after
+
+-- the plan of a read of a record
+abbrev pub recordPlan : Location → Ccw → Abstract.Drive → List ℕ → (image : List ℕ) → Read → Lent → Step.Plan
+recordPlan l c d st image k p = Step.planRead l c d st (packOf image) p k
+
+-- a read of the home address: no fault concerns it
+abbrev pub Homes : (chain program : List ℕ) → Location → Ccw → Abstract.Drive → (image : List ℕ) → List ℕ → Answer → List ℕ → Type 0
+Homes chain program l c d image st r after =
+    (p : Lent) (fs : List Fault) → p .chain ≡ chain → p .program ≡ program → Step.carry fs st (Step.planHome l c d st (packOf image) p) ≡ answerOf r after

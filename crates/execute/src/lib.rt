@@ -16,15 +16,16 @@ ghost use mathlib.Core.Path.{_≡_};
 ghost use mathlib.Core.Bool.{true};
 ghost use Prim.Native.Nat.{_≤_};
 ghost use lib.ListN.{length, take};
+ghost use Rattle.address.specs.Order.{lastCylinder};
+ghost use Rattle.image.specs.Image.{wellFormed};
 ghost use Rattle.faults.specs.FaultAt.{faultFrom};
-ghost use Rattle.pack.specs.Pack.{packOf};
-ghost use Rattle.pack.specs.Places.{Within};
+ghost use Rattle.pack.specs.Places.{recordFrom};
 ghost use Rattle.drive.specs.declared.Command.the-variants.{ReadRecord};
 ghost use Rattle.drive.specs.Command.{commandOf};
 ghost use Rattle.drive.specs.Step as Step;
-ghost use Rattle.position.specs.Standing.{driveOf, Standing, Belongs, TakenStands};
+ghost use Rattle.position.specs.Standing.{driveOf, Standing};
 ghost use Rattle.command.specs.Answer.{Low, Kept, KeptWith, KeptAlways};
-ghost use Rattle.execute.specs.Executes.{Short, Begun, Steps, Executes, Ready, Ends, Carries, Struck, planOf};
+ghost use Rattle.execute.specs.Executes.{Begun, Steps, Executes, Ready, Lies, FaultsInside, Ends, Carries, Struck, ReadsBytes, planOf, recordPlan, Homes};
 
 // ---- reads, once their bytes are known
 
@@ -101,4 +102,120 @@ fn struck(
     arrive(&mut held, bytes, f);
     let moved = transfer::transfer(chain, program, l, c, &held[..n], storage);
     settle::faulted(moved, l, x, f, n, e)
+}
+
+// ---- read commands
+
+// A read of the record at a place, whose bytes these are, with the drive behind it.
+fn read_bytes(
+    chain: &[u8],
+    program: &[u8],
+    faults: &[u8],
+    l: Location,
+    c: Ccw,
+    k: Read,
+    x: Place,
+    bytes: &[u8],
+    e: Drive,
+    storage: &mut [u8],
+) -> Answer
+    requires { ⌜ Ready (now chain) (now program) (now storage) l c ⌝ }
+    requires { ⌜ length (now bytes) ≤ 16384 ⌝ }
+    requires { ⌜ x .body ≤ x .next ⌝ }
+    requires { ⌜ FaultsInside (now faults) k x (length (now bytes)) ⌝ }
+    ensures { λ r. ⌜ ReadsBytes (now (chain .entry)) (now (program .entry)) (now (faults .entry)) l c k x (now (bytes .entry)) (driveOf e) (now (storage .entry)) r (now (storage .exit)) ⌝ }
+    ensures { λ r. ⌜ KeptWith e r ⌝ }
+{
+    if !k.datas {
+        return plain(chain, program, l, c, bytes, e, storage);
+    }
+    if x.body == x.next {
+        return empty(chain, program, l, c, bytes, e, storage);
+    }
+    let a = x.at;
+    match faults::find_fault(faults, 0, a, x.r) {
+        FaultAt::NoFault => plain(chain, program, l, c, bytes, e, storage),
+        FaultAt::Found(f) => struck(chain, program, l, c, bytes, x, f, e, storage),
+    }
+}
+
+// The same by the record's place in the image.
+fn read_at(
+    chain: &[u8],
+    program: &[u8],
+    image: &[u8],
+    faults: &[u8],
+    l: Location,
+    c: Ccw,
+    k: Read,
+    x: Place,
+    e: Drive,
+    storage: &mut [u8],
+) -> Answer
+    requires { ⌜ Ready (now chain) (now program) (now storage) l c ⌝ }
+    requires { ⌜ Begun (now chain) (now program) (now image) (now faults) ⌝ }
+    requires { ⌜ commandOf (c .command) ≡ ReadRecord k ⌝ }
+    requires { ⌜ Lies (now image) x ⌝ }
+    ensures { λ r. ⌜ Carries (now (chain .entry)) (now (program .entry)) (now (faults .entry)) (now (storage .entry)) (planOf l c (driveOf e) (now (storage .entry)) k (recordFrom (now (image .entry)) x) (driveOf e)) r (now (storage .exit)) ⌝ }
+    ensures { λ r. ⌜ KeptWith e r ⌝ }
+{
+    read::hold(image);
+    let from = read::first(x, k);
+    let to = read::last(x, k);
+    read_bytes(chain, program, faults, l, c, k, x, &image[from..to], e, storage)
+}
+
+// A read of a record: 06, 0E, 12 or 1E.
+fn read_record(
+    chain: &[u8],
+    program: &[u8],
+    image: &[u8],
+    faults: &[u8],
+    l: Location,
+    c: Ccw,
+    k: Read,
+    d: Drive,
+    storage: &mut [u8],
+) -> Answer
+    requires { ⌜ Ready (now chain) (now program) (now storage) l c ⌝ }
+    requires { ⌜ Begun (now chain) (now program) (now image) (now faults) ⌝ }
+    requires { ⌜ commandOf (c .command) ≡ ReadRecord k ⌝ }
+    requires { ⌜ Standing (now image) d ⌝ }
+    ensures { λ r. ⌜ Carries (now (chain .entry)) (now (program .entry)) (now (faults .entry)) (now (storage .entry)) (recordPlan l c (driveOf d) (now (storage .entry)) (now (image .entry)) k) r (now (storage .exit)) ⌝ }
+    ensures { λ r. ⌜ Kept (now (image .entry)) r ⌝ }
+{
+    match d.take(image, k.just, k.datas) {
+        Taken::Nothing => command::refuse(Check::NotFound, l, c, d),
+        Taken::Takes(x, e) => read_at(chain, program, image, faults, l, c, k, x, e, storage),
+    }
+}
+
+// A read of the home address.
+fn read_home(
+    chain: &[u8],
+    program: &[u8],
+    image: &[u8],
+    l: Location,
+    c: Ccw,
+    d: Drive,
+    storage: &mut [u8],
+) -> Answer
+    requires { ⌜ Ready (now chain) (now program) (now storage) l c ⌝ }
+    requires { ⌜ wellFormed lastCylinder (now image) ≡ true ⌝ }
+    requires { ⌜ Standing (now image) d ⌝ }
+    ensures { λ r. ⌜ Homes (now (chain .entry)) (now (program .entry)) l c (driveOf d) (now (image .entry)) (now (storage .entry)) r (now (storage .exit)) ⌝ }
+    ensures { λ r. ⌜ Kept (now (image .entry)) r ⌝ }
+{
+    if !d.found {
+        return command::refuse(Check::NotFound, l, c, d);
+    }
+    let a = d.at;
+    let bytes = [
+        0u8,
+        (a.cylinder / 256) as u8,
+        (a.cylinder % 256) as u8,
+        (a.head / 256) as u8,
+        (a.head % 256) as u8,
+    ];
+    plain(chain, program, l, c, &bytes, d.at_index(image), storage)
 }
