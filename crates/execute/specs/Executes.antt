@@ -20,6 +20,7 @@ use Rattle.channel.specs.Ccw.{Lent}
 use Rattle.channel.specs.Fetch.{InBytes, Inside}
 use Rattle.channel.specs.Walk.{Walk, walk, readable}
 use Rattle.drive.specs.declared.Read.{Read}
+use Rattle.drive.specs.Command.{commandOf}
 use Rattle.drive.specs.Drive as Abstract
 use Rattle.drive.specs.Step as Step
 use Rattle.position.specs.Standing.{Belongs}
@@ -53,6 +54,22 @@ abbrev pub Executes : (chain arguments program restarts image faults : List ℕ)
 Executes chain arguments program restarts image faults l c d st r after =
     (fs : List Fault) → faultsAt faults 0 ≡ some fs
     → Step.carry fs st (Step.execute (settingOf (lentOf chain arguments program restarts) image) l c d st) ≡ answerOf r after
+
+-- it stands in its area, and its fields fit their bytes
+pub record InArea (chain program : List ℕ) (l : Location) (c : Ccw) : Type 0 where
+  pub inside : Inside chain program l
+  pub bytes : InBytes c
+
+-- it makes no program check
+abbrev pub Unchecked : (chain arguments program restarts st : List ℕ) → Location → Ccw → Type 0
+Unchecked chain arguments program restarts st l c =
+    Step.sound (lentOf chain arguments program restarts) l (length st) c (commandOf (c .command)) ≡ true
+
+-- what it then comes to
+abbrev pub Performs : (chain arguments program restarts image faults : List ℕ) → Location → Ccw → Abstract.Drive → List ℕ → Answer → List ℕ → Type 0
+Performs chain arguments program restarts image faults l c d st r after =
+    (fs : List Fault) → faultsAt faults 0 ≡ some fs
+    → Step.carry fs st (Step.perform (settingOf (lentOf chain arguments program restarts) image) l c d st (commandOf (c .command))) ≡ answerOf r after
 
 -- a read may use it
 pub record Ready (chain program st : List ℕ) (l : Location) (c : Ccw) : Type 0 where

@@ -25,7 +25,7 @@ ghost use Rattle.drive.specs.Command.{commandOf};
 ghost use Rattle.drive.specs.Step as Step;
 ghost use Rattle.position.specs.Standing.{driveOf, Standing};
 ghost use Rattle.command.specs.Answer.{Low, Kept, KeptWith, KeptAlways};
-ghost use Rattle.execute.specs.Executes.{Begun, Steps, Executes, Ready, Lies, FaultsInside, Ends, Carries, Struck, ReadsBytes, planOf, recordPlan, Homes};
+ghost use Rattle.execute.specs.Executes.{Begun, Steps, Executes, InArea, Unchecked, Performs, Ready, Lies, FaultsInside, Ends, Carries, Struck, ReadsBytes, planOf, recordPlan, Homes};
 
 // ---- reads, once their bytes are known
 
@@ -162,7 +162,18 @@ fn read_at(
     read::hold(image);
     let from = read::first(x, k);
     let to = read::last(x, k);
-    read_bytes(chain, program, faults, l, c, k, x, &image[from..to], e, storage)
+    read_bytes(
+        chain,
+        program,
+        faults,
+        l,
+        c,
+        k,
+        x,
+        &image[from..to],
+        e,
+        storage,
+    )
 }
 
 // A read of a record: 06, 0E, 12 or 1E.
@@ -218,4 +229,112 @@ fn read_home(
         (a.head % 256) as u8,
     ];
     plain(chain, program, l, c, &bytes, d.at_index(image), storage)
+}
+
+// ---- any command
+
+// A command that makes no program check.
+fn perform(
+    chain: &[u8],
+    arguments: &[u8],
+    program: &[u8],
+    restarts: &[u8],
+    image: &[u8],
+    faults: &[u8],
+    l: Location,
+    c: Ccw,
+    k: Command,
+    d: Drive,
+    storage: &mut [u8],
+) -> Answer
+    requires { ⌜ Begun (now chain) (now program) (now image) (now faults) ⌝ }
+    requires { ⌜ InArea (now chain) (now program) l c ⌝ }
+    requires { ⌜ Standing (now image) d ⌝ }
+    requires { ⌜ k ≡ commandOf (c .command) ⌝ }
+    requires { ⌜ Unchecked (now chain) (now arguments) (now program) (now restarts) (now storage) l c ⌝ }
+    ensures { λ r. ⌜ Performs (now (chain .entry)) (now (arguments .entry)) (now (program .entry)) (now (restarts .entry)) (now (image .entry)) (now (faults .entry)) l c (driveOf d) (now (storage .entry)) r (now (storage .exit)) ⌝ }
+    ensures { λ r. ⌜ Kept (now (image .entry)) r ⌝ }
+{
+    match k {
+        Command::ReadHome => read_home(chain, program, image, l, c, d, storage),
+        Command::ReadRecord(m) => {
+            read_record(chain, program, image, faults, l, c, m, d, storage)
+        }
+        _ => command::perform(arguments, restarts, image, l, c, k, d),
+    }
+}
+
+// The CCW c at l, with the drive and storage before it.
+fn execute(
+    chain: &[u8],
+    arguments: &[u8],
+    program: &[u8],
+    restarts: &[u8],
+    image: &[u8],
+    faults: &[u8],
+    l: Location,
+    c: Ccw,
+    d: Drive,
+    storage: &mut [u8],
+) -> Answer
+    requires { ⌜ Begun (now chain) (now program) (now image) (now faults) ⌝ }
+    requires { ⌜ InArea (now chain) (now program) l c ⌝ }
+    requires { ⌜ Standing (now image) d ⌝ }
+    ensures { λ r. ⌜ Executes (now (chain .entry)) (now (arguments .entry)) (now (program .entry)) (now (restarts .entry)) (now (image .entry)) (now (faults .entry)) l c (driveOf d) (now (storage .entry)) r (now (storage .exit)) ⌝ }
+    ensures { λ r. ⌜ Kept (now (image .entry)) r ⌝ }
+{
+    let k = drive::command_of(c.command);
+    if !drive::sound(l, c, k, arguments.len(), restarts.len(), storage.len()) {
+        return command::program_check(l, d);
+    }
+    perform(
+        chain,
+        arguments,
+        program,
+        restarts,
+        image,
+        faults,
+        l,
+        c,
+        k,
+        d,
+        storage,
+    )
+}
+
+// One command of a run, from the state before it.
+pub fn step(
+    chain: &[u8],
+    arguments: &[u8],
+    program: &[u8],
+    restarts: &[u8],
+    image: &[u8],
+    faults: &[u8],
+    s: State,
+    storage: &mut [u8],
+) -> Answer
+    requires { ⌜ Begun (now chain) (now program) (now image) (now faults) ⌝ }
+    requires { ⌜ Standing (now image) (s .drive) ⌝ }
+    requires { ⌜ Low (s .last) ⌝ }
+    ensures { λ r. ⌜ Steps (now (chain .entry)) (now (arguments .entry)) (now (program .entry)) (now (restarts .entry)) (now (image .entry)) (now (faults .entry)) s (now (storage .entry)) r (now (storage .exit)) ⌝ }
+    ensures { λ r. ⌜ Kept (now (image .entry)) r ⌝ }
+{
+    let last = s.last;
+    let at = s.at;
+    let d = s.drive;
+    match channel::resolve(chain, program, last, at) {
+        Fetched::Broken(l) => command::program_check(l, d),
+        Fetched::Got(l, c) => execute(
+            chain,
+            arguments,
+            program,
+            restarts,
+            image,
+            faults,
+            l,
+            c,
+            d,
+            storage,
+        ),
+    }
 }

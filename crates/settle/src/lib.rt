@@ -35,7 +35,12 @@ pub fn settled(m: Moved, d: Drive) -> Answer
         Moved::Checked(l) => {
             return command::program_check(l, d);
         }
-        Moved::Ended { at, ccw, left, over } => {
+        Moved::Ended {
+            at,
+            ccw,
+            left,
+            over,
+        } => {
             if ccw.incorrect_length(left, over) {
                 let mask = d.mask;
                 return Answer::Ends(End {
@@ -59,7 +64,12 @@ pub fn excepted(m: Moved, d: Drive) -> Answer
         Moved::Checked(l) => {
             return command::program_check(l, d);
         }
-        Moved::Ended { at, ccw, left, over } => {
+        Moved::Ended {
+            at,
+            ccw,
+            left,
+            over,
+        } => {
             let channel = length_status(ccw.incorrect_length(left, over));
             let mask = d.mask;
             return Answer::Ends(End {
@@ -81,7 +91,12 @@ pub fn faulted(m: Moved, first: Location, p: Place, f: Listed, length: usize, d:
         Moved::Checked(l) => {
             return command::program_check(l, d);
         }
-        Moved::Ended { at, ccw, left, over } => {
+        Moved::Ended {
+            at,
+            ccw,
+            left,
+            over,
+        } => {
             let channel = length_status(ccw.incorrect_length(left, over));
             let mask = d.mask;
             let track = p.at;

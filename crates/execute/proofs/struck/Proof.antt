@@ -45,12 +45,11 @@ returns c =
     let a = start .args in
     let arrive = c .before .before .before .before .before .before .before .arrive in
     let move = c .before .before .before .transfer in
-    let n = front-length _ (arrive .last .0) 16384 (arrive .ensures .1) (start .pre .1 .0) in
-    (
+    let n = front-length _ (arrive .last .0) 16384 (arrive .ensures .1) (start .pre .1 .0) in (
       λ y g h.
-      ended-so _ _ _ _ (take (length (a .bytes .now)) (arrive .last .0)) (a .storage .now) _ (move .result) (move .ensures) _
-      (Step.faulted (a .l) y (faultFrom (a .f)) (a .bytes .now) (driveOf (a .e)) (a .storage .now)) (c .faulted .result) n
-      (λ ps. c .faulted .ensures .0 ps y (a .bytes .now) (a .storage .now) g h refl ∙ ap (λ s. answerOf (c .faulted .result) (store ps s (a .storage .now))) (sym (arrive .ensures .0))),
+          ended-so _ _ _ _ (take (length (a .bytes .now)) (arrive .last .0)) (a .storage .now) _ (move .result) (move .ensures) _
+          (Step.faulted (a .l) y (faultFrom (a .f)) (a .bytes .now) (driveOf (a .e)) (a .storage .now)) (c .faulted .result) n
+          (λ ps. c .faulted .ensures .0 ps y (a .bytes .now) (a .storage .now) g h refl ∙ ap (λ s. answerOf (c .faulted .result) (store ps s (a .storage .now))) (sym (arrive .ensures .0))),
       c .faulted .ensures .1,
     )
 
