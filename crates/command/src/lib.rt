@@ -209,11 +209,13 @@ fn seek_to(image: &[u8], zero: usize, a: Address, l: Location, c: Ccw, d: Drive)
     if zero != 0 {
         return refuse(Check::Rejected, l, c, d);
     }
-    if !a.on_pack(address::LAST_CYLINDER) {
+    let on = a.on_pack(address::LAST_CYLINDER);
+    let mask = d.mask;
+    let barred = protects(mask);
+    if !on {
         return refuse(Check::Rejected, l, c, d);
     }
-    let mask = d.mask;
-    if protects(mask) {
+    if barred {
         return refuse(Check::Protected, l, c, d);
     }
     onward(l, behind(l), c, 0, d.sought(image, a))

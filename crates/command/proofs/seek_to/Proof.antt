@@ -19,7 +19,7 @@ refuse-requires-2 : tie.Need-refuse-requires-2
 refuse-requires-2 c κs = search needs
 
 returns-2 : tie.Need-returns-2
-returns-2 c = (seek-off _ _ _ (c .refuse2 .result) _ _ (sym (c .before .before .on-pack .ensures) ∙ not-true _ (c .before .if2 .taken)) (c .refuse2 .ensures .0), c .refuse2 .ensures .1 _)
+returns-2 c = (seek-off _ _ _ (c .refuse2 .result) _ _ (sym (c .before .before .before .on-pack .ensures) ∙ not-true _ (c .before .if2 .taken)) (c .refuse2 .ensures .0), c .refuse2 .ensures .1 _)
 
 protects-requires : tie.Need-protects-requires
 protects-requires c κs = search needs
@@ -29,10 +29,10 @@ refuse-requires-3 c κs = search needs
 
 returns-3 : tie.Need-returns-3
 returns-3 c =
-    let pack = c .before .before .before in
-    let on = sym (pack .before .on-pack .ensures) ∙ not-false _ (pack .if2 .left) in
-    let masked = sym (c .before .before .protects .ensures) ∙ c .before .if3 .taken in
-    (seek-protected _ _ _ (c .refuse3 .result) _ _ (pack .before .before .if1 .left) on masked (c .refuse3 .ensures .0), c .refuse3 .ensures .1 _)
+    let test = c .before .before in
+    let on = sym (test .before .before .on-pack .ensures) ∙ not-false _ (test .if2 .left) in
+    let masked = sym (test .before .protects .ensures) ∙ c .before .if3 .taken in
+    (seek-protected _ _ _ (c .refuse3 .result) _ _ (test .before .before .before .if1 .left) on masked (c .refuse3 .ensures .0), c .refuse3 .ensures .1 _)
 
 behind-requires : tie.Need-behind-requires
 behind-requires c κs = search needs
@@ -46,12 +46,12 @@ onward-requires c κs = search needs
 returns-4 : tie.Need-returns-4
 returns-4 c =
     let mask = c .before .before .before in
-    let pack = mask .before .before in
-    let on = sym (pack .before .on-pack .ensures) ∙ not-false _ (pack .if2 .left) in
-    let free = sym (mask .before .protects .ensures) ∙ mask .if3 .left in
+    let test = mask .before in
+    let on = sym (test .before .before .on-pack .ensures) ∙ not-false _ (test .if2 .left) in
+    let free = sym (test .before .protects .ensures) ∙ mask .if3 .left in
     let to = c .before .sought in
     let done = c .onward in
-    (seek-done _ _ _ (done .result) _ _ (pack .before .before .if1 .left) on free (c .before .before .behind .ensures) (to .ensures .0) (done .ensures .0), done .ensures .1 _ (to .ensures .1))
+    (seek-done _ _ _ (done .result) _ _ (test .before .before .before .if1 .left) on free (c .before .before .behind .ensures) (to .ensures .0) (done .ensures .0), done .ensures .1 _ (to .ensures .1))
 
 pub seek-to-spec : {M : Type 1} → statement M
 seek-to-spec =
@@ -60,9 +60,9 @@ seek-to-spec =
     refuse-requires
     returns
     on-pack-requires
+    protects-requires
     refuse-requires-2
     returns-2
-    protects-requires
     refuse-requires-3
     returns-3
     behind-requires
