@@ -1,9 +1,12 @@
-//! Runs the simulator over hand-written cases: every `.txt` file of the directory given.
+//! Runs simulator and library over hand-written cases: every `.txt` file of the directory given.
 
 mod cases;
+#[path = "differential/library.rs"]
+mod library;
 mod simulator;
 
 use cases::{taken_area, Answer, Ending, Lent, Ran};
+use library::{RestartAreas, RunAreas, ANSWER};
 use simulator::channel::Restart;
 use simulator::run::{self, End, Outcome};
 use simulator::LAST_CYLINDER;
@@ -12,7 +15,12 @@ use std::process::ExitCode;
 
 fn main() -> ExitCode {
     let directory = std::env::args().nth(1).expect("a directory of cases");
-    if cases::all_pass(Path::new(&directory), run_simulator) {
+    let directory = Path::new(&directory);
+    let passed = [
+        cases::all_pass(directory, "simulator", run_simulator),
+        cases::all_pass(directory, "library", run_library),
+    ];
+    if passed == [true; 2] {
         ExitCode::SUCCESS
     } else {
         ExitCode::FAILURE
@@ -65,3 +73,56 @@ fn ran(outcome: Outcome) -> Ran {
         taken: Some(taken.collect()),
     }
 }
+
+fn run_library(lent: &mut Lent) -> Answer {
+    const UNTOUCHED: [u8; ANSWER] = [0xA5; ANSWER];
+    let mut answer = UNTOUCHED;
+    let areas = RunAreas {
+        chain: &mut lent.chain,
+        arguments: &mut lent.arguments,
+        storage: &mut lent.storage,
+        image: &mut lent.image,
+        faults: &mut lent.faults,
+    };
+    let number = match &mut lent.restart {
+        None => library::run(areas, lent.limit, &mut answer),
+        Some(restart) => {
+            let restart = RestartAreas {
+                program: &mut restart.program,
+                arguments: &mut restart.arguments,
+            };
+            library::run_restart(areas, restart, &mut answer)
+        }
+    };
+    match number {
+        library::ENDED => Answer::Ran(answered(Ending::End, &answer)),
+        library::LIMIT => Answer::Ran(answered(Ending::Limit, &answer)),
+        _ => {
+            assert_eq!(answer, UNTOUCHED, "a refusal writes nothing");
+            Answer::Refused(number)
+        }
+    }
+}
+
+/// What the library has written of a run that was not refused.
+fn answered(ending: Ending, answer: &[u8; ANSWER]) -> Ran {
+    let (csw, rest) = answer.split_first_chunk().expect("8 bytes");
+    let (sense, rest) = rest.split_first_chunk().expect("24 bytes");
+    let &[is_set, mask, c0, c1] = rest else {
+        unreachable!("4 bytes are left");
+    };
+    assert!(is_set == 1 || (is_set, mask) == (0, 0), "a mask or none");
+    let is_cut = sense[0] == DATA_CHECK;
+    assert!(is_cut || (c0, c1) == (0, 0), "an address or none");
+    Ran {
+        ending,
+        csw: *csw,
+        sense: *sense,
+        mask: (is_set == 1).then_some(mask),
+        cut: is_cut.then_some(u16::from_be_bytes([c0, c1]).into()),
+        taken: None,
+    }
+}
+
+/// Sense byte 0 where a faulted data area cut a read.
+const DATA_CHECK: u8 = 0x08;

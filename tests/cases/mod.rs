@@ -65,7 +65,7 @@ pub type Runner = fn(&mut Lent) -> Answer;
 
 /// Runs every case of the directory's `.txt` files, prints what comes out otherwise than they say,
 /// and tells whether nothing did.
-pub fn all_pass(directory: &Path, run: Runner) -> bool {
+pub fn all_pass(directory: &Path, runner: &str, run: Runner) -> bool {
     let mut cases = 0;
     let mut failed = 0;
     for file in files(directory) {
@@ -76,14 +76,14 @@ pub fn all_pass(directory: &Path, run: Runner) -> bool {
             let differences = case.differences(run);
             if !differences.is_empty() {
                 failed += 1;
-                println!("{}, {}", file.display(), case.name);
+                println!("{runner}: {}, {}", file.display(), case.name);
             }
             for difference in differences {
                 println!("  {difference}");
             }
         }
     }
-    println!("{cases} cases, {failed} failed");
+    println!("{runner}: {cases} cases, {failed} failed");
     cases > 0 && failed == 0
 }
 

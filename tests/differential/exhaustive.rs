@@ -35,7 +35,7 @@ fn sample_byte_by_byte(comparison: &mut Comparison) -> Result<(), Disagreement> 
     Ok(())
 }
 
-fn each_byte_at_each_value(bytes: &[u8]) -> impl Iterator<Item = Vec<u8>> + '_ {
+pub fn each_byte_at_each_value(bytes: &[u8]) -> impl Iterator<Item = Vec<u8>> + '_ {
     (0..bytes.len()).flat_map(move |at| {
         (0..=255).map(move |value| {
             let mut changed = bytes.to_vec();

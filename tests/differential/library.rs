@@ -26,6 +26,62 @@ extern "C" {
         limit: usize,
     ) -> u8;
     fn giruve_check_restart_areas(program_len: usize, arguments_len: usize) -> u8;
+    fn giruve_run(
+        chain: *const u8,
+        chain_len: usize,
+        arguments: *const u8,
+        arguments_len: usize,
+        storage: *mut u8,
+        storage_len: usize,
+        image: *const u8,
+        image_len: usize,
+        faults: *const u8,
+        faults_len: usize,
+        limit: usize,
+        answer: *mut u8,
+        answer_len: usize,
+    ) -> u8;
+    fn giruve_run_restart(
+        chain: *const u8,
+        chain_len: usize,
+        arguments: *const u8,
+        arguments_len: usize,
+        program: *const u8,
+        program_len: usize,
+        restart_arguments: *const u8,
+        restart_arguments_len: usize,
+        storage: *mut u8,
+        storage_len: usize,
+        image: *const u8,
+        image_len: usize,
+        faults: *const u8,
+        faults_len: usize,
+        answer: *mut u8,
+        answer_len: usize,
+    ) -> u8;
+}
+
+/// What a run answers where no question refuses it.
+pub const ENDED: u8 = 0;
+pub const LIMIT: u8 = 10;
+
+/// Bytes of the area that a run answers in: CSW, sense, whether a mask was set, that mask, address
+/// of the first CCW of a read that was cut.
+pub const ANSWER: usize = 8 + 24 + 1 + 1 + 2;
+
+/// The areas of a run but the one that it answers in.
+pub struct RunAreas<'a> {
+    pub chain: &'a mut [u8],
+    pub arguments: &'a mut [u8],
+    pub storage: &'a mut [u8],
+    pub image: &'a mut [u8],
+    pub faults: &'a mut [u8],
+}
+
+/// The areas that a restarted run has besides.
+pub struct RestartAreas<'a> {
+    pub program: &'a mut [u8],
+    pub arguments: &'a mut [u8],
 }
 
 // Every call below is given areas that are valid for the lengths beside them and do not overlap;
@@ -65,4 +121,47 @@ pub fn check_areas(sizes: RunSizes) -> u8 {
 
 pub fn check_restart_areas(program: usize, arguments: usize) -> u8 {
     unsafe { giruve_check_restart_areas(program, arguments) }
+}
+
+pub fn run(areas: RunAreas, limit: usize, answer: &mut [u8]) -> u8 {
+    unsafe {
+        giruve_run(
+            areas.chain.as_mut_ptr(),
+            areas.chain.len(),
+            areas.arguments.as_mut_ptr(),
+            areas.arguments.len(),
+            areas.storage.as_mut_ptr(),
+            areas.storage.len(),
+            areas.image.as_mut_ptr(),
+            areas.image.len(),
+            areas.faults.as_mut_ptr(),
+            areas.faults.len(),
+            limit,
+            answer.as_mut_ptr(),
+            answer.len(),
+        )
+    }
+}
+
+pub fn run_restart(areas: RunAreas, restart: RestartAreas, answer: &mut [u8]) -> u8 {
+    unsafe {
+        giruve_run_restart(
+            areas.chain.as_mut_ptr(),
+            areas.chain.len(),
+            areas.arguments.as_mut_ptr(),
+            areas.arguments.len(),
+            restart.program.as_mut_ptr(),
+            restart.program.len(),
+            restart.arguments.as_mut_ptr(),
+            restart.arguments.len(),
+            areas.storage.as_mut_ptr(),
+            areas.storage.len(),
+            areas.image.as_mut_ptr(),
+            areas.image.len(),
+            areas.faults.as_mut_ptr(),
+            areas.faults.len(),
+            answer.as_mut_ptr(),
+            answer.len(),
+        )
+    }
 }

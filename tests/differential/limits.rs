@@ -13,7 +13,7 @@ const LONGEST_LIST: usize = 65_536;
 
 /// Bytes of a fault's field, and the most faults that a list has room for.
 const FAULT_FIELD: usize = 3 + 10;
-const MOST_FAULTS: usize = LONGEST_LIST / FAULT_FIELD;
+pub const MOST_FAULTS: usize = LONGEST_LIST / FAULT_FIELD;
 
 pub fn compare_all(comparison: &mut Comparison, random: &mut Random) -> Result<(), Disagreement> {
     images(comparison, random)?;
@@ -62,7 +62,7 @@ fn fault_lists(comparison: &mut Comparison) -> Result<(), Disagreement> {
 }
 
 /// A list of the last records that have data, the last first.
-fn faults_of_last_records(pack: &Pack, how_many: usize) -> Vec<u8> {
+pub fn faults_of_last_records(pack: &Pack, how_many: usize) -> Vec<u8> {
     let records: Vec<_> = pack.tracks().flat_map(|(_, records)| records).collect();
     let mut list = Vec::new();
     let last = records.iter().rev();

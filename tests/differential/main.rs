@@ -2,16 +2,24 @@
 //!
 //! Another seed may be given as the only argument.
 
+#[macro_use]
 #[path = "../simulator/mod.rs"]
 mod simulator;
 
+mod arena;
+#[allow(dead_code)]
+#[path = "../cases/mod.rs"]
+mod cases;
+mod chains;
 mod compare;
 mod damage;
 mod exhaustive;
 mod generate;
 mod library;
 mod limits;
+mod marks;
 mod random;
+mod runs;
 mod sizes;
 mod tally;
 
@@ -46,7 +54,11 @@ fn main() -> ExitCode {
         println!("never seen: {}", never_seen.join(", "));
         return ExitCode::FAILURE;
     }
-    println!("{} inputs compared, 0 disagreements", tally.compared);
+    println!(
+        "{} inputs compared, {} of them runs, 0 disagreements",
+        tally.compared,
+        tally.runs()
+    );
     ExitCode::SUCCESS
 }
 
@@ -59,7 +71,8 @@ fn compare_all(comparison: &mut Comparison, random: &mut Random) -> Result<(), D
         extents(comparison, random, turn)?;
         area_sizes(comparison, random, turn)?;
     }
-    limits::compare_all(comparison, random)
+    limits::compare_all(comparison, random)?;
+    runs::compare_all(comparison, random)
 }
 
 fn well_formed(

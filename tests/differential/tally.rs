@@ -1,5 +1,6 @@
-//! How often each answer and each broken rule was seen.
+//! How often each answer, each broken rule and each mark of a run was seen.
 
+use crate::marks::Mark;
 use crate::simulator::areas::Area;
 use crate::simulator::extent::ExtentRule;
 use crate::simulator::faults::FaultRule;
@@ -36,13 +37,25 @@ pub const CHECK_RESTART_AREAS: Call = Call {
     answers: &[0, 1],
 };
 
-const CALLS: [Call; 5] = [
+pub const RUN: Call = Call {
+    name: "giruve_run",
+    answers: &[0, 1, 2, 3, 10],
+};
+pub const RUN_RESTART: Call = Call {
+    name: "giruve_run_restart",
+    answers: &[0, 1, 2, 3, 10],
+};
+
+const CALLS: [Call; 7] = [
     CHECK_IMAGE,
     CHECK_FAULTS,
     CHECK_EXTENT,
     CHECK_AREAS,
     CHECK_RESTART_AREAS,
+    RUN,
+    RUN_RESTART,
 ];
+const RUN_CALLS: [Call; 2] = [RUN, RUN_RESTART];
 
 type Answers = BTreeMap<u8, u64>;
 
@@ -52,6 +65,7 @@ pub struct Tally {
     pub compared: u64,
     answers: BTreeMap<(Call, &'static str), Answers>,
     rules: BTreeMap<Refusal, u64>,
+    marks: BTreeMap<(Call, Mark), u64>,
 }
 
 impl Tally {
@@ -65,7 +79,23 @@ impl Tally {
         *self.rules.entry(refusal).or_default() += 1;
     }
 
-    /// Prints how often each answer was seen, by call and by kind, and each broken rule.
+    /// Counts a run of which these are the marks.
+    pub fn count_marks(&mut self, call: Call, marks: impl IntoIterator<Item = Mark>) {
+        for mark in marks {
+            *self.marks.entry((call, mark)).or_default() += 1;
+        }
+    }
+
+    /// Runs compared.
+    pub fn runs(&self) -> u64 {
+        RUN_CALLS
+            .iter()
+            .flat_map(|&call| self.total(call).into_values())
+            .sum()
+    }
+
+    /// Prints how often each answer was seen, by call and by kind, each broken rule, and in how
+    /// many runs each mark was.
     pub fn print(&self) {
         for call in CALLS {
             println!("{:<36}{}", call.name, Counts(&self.total(call)));
@@ -77,9 +107,19 @@ impl Tally {
         for (rule, times) in &self.rules {
             println!("  {:<34}{times:>9}", format!("{rule:?}"));
         }
+        println!("{:<50}{:>9}{:>11}", "runs with", "chain", "restarted");
+        for mark in Mark::all() {
+            let [chain, restarted] = RUN_CALLS.map(|call| self.runs_with(call, mark));
+            let mark = mark.to_string();
+            println!("  {mark:<48}{chain:>9}{restarted:>11}");
+        }
     }
 
-    /// Answers and rules that no input brought out.
+    fn runs_with(&self, call: Call, mark: Mark) -> u64 {
+        self.marks.get(&(call, mark)).copied().unwrap_or(0)
+    }
+
+    /// Answers, rules and marks that no input brought out.
     pub fn never_seen(&self) -> Vec<String> {
         let answers = CALLS.iter().flat_map(|&call| {
             let seen = self.total(call);
@@ -95,7 +135,12 @@ impl Tally {
             .chain(ExtentRule::ALL.iter().copied().map(Refusal::Extent))
             .filter(|rule| !self.rules.contains_key(rule))
             .map(|rule| format!("{rule:?}"));
-        answers.chain(rules).collect()
+        let marks = RUN_CALLS.iter().flat_map(|&call| {
+            let missing = Mark::all().into_iter();
+            let missing = missing.filter(move |&mark| self.runs_with(call, mark) == 0);
+            missing.map(move |mark| format!("{} with {mark}", call.name))
+        });
+        answers.chain(rules).chain(marks).collect()
     }
 
     fn kinds(&self, call: Call) -> impl Iterator<Item = (&(Call, &'static str), &Answers)> {

@@ -2,8 +2,8 @@
 
 use super::areas::{check_restart, check_run, RunSizes};
 use super::channel::{
-    Ccw, Channel, Program, ProgramCheck, Restart, Status, CCW_LENGTH, CHANNEL_INCORRECT_LENGTH,
-    FLAG_CHAIN_COMMAND, FLAG_CHAIN_DATA, UNIT_CHECK, UNIT_EXCEPTION,
+    Ccw, Channel, Program, ProgramCheck, ReadEnd, Restart, Status, Stretch, CCW_LENGTH,
+    CHANNEL_INCORRECT_LENGTH, FLAG_CHAIN_COMMAND, FLAG_CHAIN_DATA, UNIT_CHECK, UNIT_EXCEPTION,
 };
 use super::drive::{
     data_check_sense, Arriving, Done, Drive, Operand, Sense, UnitCheck, NO_OPERATION,
@@ -84,6 +84,20 @@ pub struct Outcome {
     pub taken: Vec<TakenArea>,
 }
 
+/// Who is told what a run does while it does it; `()` does not listen.
+pub trait Watch {
+    /// The drive has seen a command; the argument is that of a control or search command.
+    fn command(&mut self, _ccw: &Ccw, _argument: &[u8], _done: &Result<Done, UnitCheck>) {}
+
+    /// A CCW has taken bytes of the read that the drive has just seen.
+    fn stretch(&mut self, _stretch: &Stretch) {}
+
+    /// That read has ended, and not in a program check.
+    fn read_end(&mut self, _end: &ReadEnd) {}
+}
+
+impl Watch for () {}
+
 /// Questions 1, 2 and 3, then a run from the chain's first CCW. A refusal leaves storage.
 pub fn run(
     lent: Lent,
@@ -91,18 +105,40 @@ pub fn run(
     limit: usize,
     last_cylinder: u16,
 ) -> Result<Outcome, Refusal> {
+    run_watched(lent, storage, limit, last_cylinder, &mut ())
+}
+
+/// The same, and `watch` is told of the run.
+pub fn run_watched(
+    lent: Lent,
+    storage: &mut [u8],
+    limit: usize,
+    last_cylinder: u16,
+    watch: &mut impl Watch,
+) -> Result<Outcome, Refusal> {
     lent.check(storage.len(), limit)?;
     let (pack, faults) = check_faults(lent.image, lent.faults, last_cylinder)?;
     let drive = Drive::new(&pack, &faults, last_cylinder);
-    Ok(run_drive(drive, lent.program(None), storage, limit))
+    Ok(run_drive(drive, lent.program(None), storage, limit, watch))
 }
 
-/// The same from a restart program, with a restarted run's limit.
+/// As `run`, from a restart program and with a restarted run's limit.
 pub fn run_restarted(
     lent: Lent,
     restart: Restart,
     storage: &mut [u8],
     last_cylinder: u16,
+) -> Result<Outcome, Refusal> {
+    run_restarted_watched(lent, restart, storage, last_cylinder, &mut ())
+}
+
+/// The same, and `watch` is told of the run.
+pub fn run_restarted_watched(
+    lent: Lent,
+    restart: Restart,
+    storage: &mut [u8],
+    last_cylinder: u16,
+    watch: &mut impl Watch,
 ) -> Result<Outcome, Refusal> {
     // The chain's own limit is not lent here: 1 is as good as any.
     lent.check(storage.len(), 1)?;
@@ -110,15 +146,22 @@ pub fn run_restarted(
     let (pack, faults) = check_faults(lent.image, lent.faults, last_cylinder)?;
     let drive = Drive::new(&pack, &faults, last_cylinder);
     let program = lent.program(Some(restart));
-    Ok(run_drive(drive, program, storage, RESTARTED_LIMIT))
+    Ok(run_drive(drive, program, storage, RESTARTED_LIMIT, watch))
 }
 
 /// A run with nothing left to ask: the drive is new, the areas are as they must be.
-pub fn run_drive(drive: Drive, program: Program, storage: &mut [u8], limit: usize) -> Outcome {
+pub fn run_drive(
+    drive: Drive,
+    program: Program,
+    storage: &mut [u8],
+    limit: usize,
+    watch: &mut impl Watch,
+) -> Outcome {
     Machine {
         channel: Channel::new(program, storage.len()),
         drive,
         storage,
+        watch,
         sense: [0; 24],
         cut: None,
         taken: Vec::new(),
@@ -143,16 +186,17 @@ impl Then {
     }
 }
 
-struct Machine<'a> {
+struct Machine<'a, W> {
     channel: Channel<'a>,
     drive: Drive<'a>,
     storage: &'a mut [u8],
+    watch: &'a mut W,
     sense: Sense,
     cut: Option<usize>,
     taken: Vec<TakenArea>,
 }
 
-impl Machine<'_> {
+impl<W: Watch> Machine<'_, W> {
     fn run(mut self, limit: usize) -> Outcome {
         let mut fetched = self.channel.fetch_first();
         let mut begun = 0;
@@ -192,7 +236,9 @@ impl Machine<'_> {
             }
         };
         let chained_data = ccw.has(FLAG_CHAIN_DATA);
-        match self.drive.execute(ccw.command, argument, chained_data) {
+        let done = self.drive.execute(ccw.command, argument, chained_data);
+        self.watch.command(&ccw, argument, &done);
+        match done {
             Ok(Done::Control) => {
                 let count_left = match ccw.command {
                     NO_OPERATION => ccw.count,
@@ -219,6 +265,7 @@ impl Machine<'_> {
     fn read(&mut self, first: Ccw, arriving: Arriving) -> Result<(Status, Then), ProgramCheck> {
         let mut stored = 0;
         let walked = self.channel.walk(first, arriving.length(), |stretch| {
+            self.watch.stretch(&stretch);
             if let Some(at) = stretch.storage {
                 arriving.copy_to(stretch.from, &mut self.storage[at..at + stretch.length]);
                 stored += stretch.length_from(arriving.data_start());
@@ -234,6 +281,7 @@ impl Machine<'_> {
             });
         }
         let end = walked?;
+        self.watch.read_end(&end);
         let mut status = Status::ended(end.count_left);
         if end.is_incorrect_length() {
             status.channel |= CHANNEL_INCORRECT_LENGTH;

@@ -1,12 +1,16 @@
 // The calls for C and Rust: plain bytes and numbers in, document 01's numbers out. Each stands for a proved call and adds no rule.
 use questions::Checked;
 use questions::Question;
+use trial::Trial;
 ghost use mathlib.Core.Path.{_≡_};
+ghost use lib.ListN.{length};
 ghost use Rattle.questions.specs.Number.{answerOf};
 ghost use Rattle.address.specs.Within.{extentAnswer};
 ghost use Rattle.image.specs.Image.{imageAnswer};
 ghost use Rattle.faults.specs.Faults.{faultsAnswer};
+ghost use Rattle.trial.specs.Trial.{runCall, restartCall, TrialLow};
 ghost use Rattle.giruve.specs.Areas.{runAnswer, restartAnswer};
+ghost use Rattle.giruve.specs.Run.{HandsOut, handed};
 
 // Questions 1 and 2: 0, 1 or 2.
 #[no_mangle]
@@ -59,4 +63,72 @@ pub extern "C" fn giruve_check_restart_areas(program: usize, arguments: usize) -
         return questions::answer(Checked::Accepted);
     }
     questions::answer(Checked::Refused(Question::Areas))
+}
+
+// ---- runs
+
+// The bytes of an answer.
+const ANSWER_LENGTH: usize = 36;
+
+// A run's number, with its bytes in the answer area; a refusal leaves the area as it was.
+fn hand_out(answer: &mut [u8], t: Trial) -> u8
+    requires { ⌜ length (now answer) ≡ 36 ⌝ }
+    requires { ⌜ TrialLow t ⌝ }
+    ensures { λ r. ⌜ HandsOut (now (answer .entry)) t r (now (answer .exit)) ⌝ }
+{
+    match t {
+        Trial::Refused(q) => {
+            return questions::number(q);
+        }
+        Trial::Ran(r) => {
+            answer::put(answer, r);
+            return answer::number(r);
+        }
+    }
+}
+
+// A run of a chain: 0 ended, 10 "limit", 1, 2 or 3 refused. The answer area has 36 bytes; another length is refused by 1.
+// A refusal leaves storage and answer as they were.
+#[no_mangle]
+pub extern "C" fn giruve_run(
+    chain: &[u8],
+    arguments: &[u8],
+    storage: &mut [u8],
+    image: &[u8],
+    faults: &[u8],
+    limit: usize,
+    answer: &mut [u8],
+) -> u8
+    ensures number { λ r. ⌜ r ≡ (handed (now (answer .entry)) (now (storage .entry)) (runCall (now (chain .entry)) (now (arguments .entry)) (now (storage .entry)) (now (image .entry)) (now (faults .entry)) limit)) .number ⌝ }
+    ensures answer { λ _. ⌜ now (answer .exit) ≡ (handed (now (answer .entry)) (now (storage .entry)) (runCall (now (chain .entry)) (now (arguments .entry)) (now (storage .entry)) (now (image .entry)) (now (faults .entry)) limit)) .answer ⌝ }
+    ensures storage { λ _. ⌜ now (storage .exit) ≡ (handed (now (answer .entry)) (now (storage .entry)) (runCall (now (chain .entry)) (now (arguments .entry)) (now (storage .entry)) (now (image .entry)) (now (faults .entry)) limit)) .storage ⌝ }
+{
+    if answer.len() != ANSWER_LENGTH {
+        return questions::number(Question::Areas);
+    }
+    let t = trial::run(chain, arguments, storage, image, faults, limit);
+    hand_out(answer, t)
+}
+
+// A run of a restart program, with its own limit; the same numbers.
+#[no_mangle]
+pub extern "C" fn giruve_run_restart(
+    chain: &[u8],
+    arguments: &[u8],
+    program: &[u8],
+    restarts: &[u8],
+    storage: &mut [u8],
+    image: &[u8],
+    faults: &[u8],
+    answer: &mut [u8],
+) -> u8
+    ensures number { λ r. ⌜ r ≡ (handed (now (answer .entry)) (now (storage .entry)) (restartCall (now (chain .entry)) (now (arguments .entry)) (now (program .entry)) (now (restarts .entry)) (now (storage .entry)) (now (image .entry)) (now (faults .entry)))) .number ⌝ }
+    ensures answer { λ _. ⌜ now (answer .exit) ≡ (handed (now (answer .entry)) (now (storage .entry)) (restartCall (now (chain .entry)) (now (arguments .entry)) (now (program .entry)) (now (restarts .entry)) (now (storage .entry)) (now (image .entry)) (now (faults .entry)))) .answer ⌝ }
+    ensures storage { λ _. ⌜ now (storage .exit) ≡ (handed (now (answer .entry)) (now (storage .entry)) (restartCall (now (chain .entry)) (now (arguments .entry)) (now (program .entry)) (now (restarts .entry)) (now (storage .entry)) (now (image .entry)) (now (faults .entry)))) .storage ⌝ }
+{
+    if answer.len() != ANSWER_LENGTH {
+        return questions::number(Question::Areas);
+    }
+    let t = trial::run_restart(chain, arguments, program, restarts, storage, image, faults);
+    hand_out(answer, t)
 }

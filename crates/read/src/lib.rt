@@ -44,7 +44,7 @@ pub fn last(p: Place, k: Read) -> usize
 }
 
 // x exclusive-ored into the byte at a place, if that is inside.
-fn strike(bytes: &mut [u8], at: usize, x: u8)
+pub fn strike(bytes: &mut [u8], at: usize, x: u8)
     ensures { λ _. ⌜ now (bytes .exit) ≡ struckAt at x (now (bytes .entry)) ⌝ }
 {
     if at < bytes.len() {

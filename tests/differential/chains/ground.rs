@@ -1,9 +1,9 @@
-//! Small images with their fault lists, so that a chain meets every record often.
+//! Images of few records with their fault lists, so that a chain meets every record often.
 
 use crate::generate::{self, written};
 use crate::random::Random;
 use crate::simulator::encode::{put_home_address, put_record};
-use crate::simulator::pack::{Pack, TrackAddress};
+use crate::simulator::pack::{Pack, TrackAddress, LONGEST_RECORD};
 use crate::simulator::LAST_CYLINDER;
 
 pub struct Ground {
@@ -33,7 +33,18 @@ pub fn any_track(random: &mut Random) -> TrackAddress {
 
 impl Ground {
     pub fn new(random: &mut Random) -> Ground {
-        let image = image(random);
+        let storage = storage(random);
+        Ground::of(random, storage, put_track)
+    }
+
+    /// Records up to the longest, and storage for most of them.
+    pub fn long(random: &mut Random) -> Ground {
+        let storage = random.pick(&[4_096, 20_000, 65_535, 65_536]);
+        Ground::of(random, storage, put_long_track)
+    }
+
+    fn of(random: &mut Random, storage: usize, put_track: PutTrack) -> Ground {
+        let image = image(random, put_track);
         let pack = generate::decoded(&image);
         let faults = if random.once_in(2) {
             Vec::new()
@@ -42,7 +53,7 @@ impl Ground {
         };
         Ground {
             faults,
-            storage: storage(random),
+            storage,
             image,
         }
     }
@@ -71,7 +82,9 @@ fn storage(random: &mut Random) -> usize {
     }
 }
 
-fn image(random: &mut Random) -> Vec<u8> {
+type PutTrack = fn(&mut Random, &mut Vec<u8>, TrackAddress);
+
+fn image(random: &mut Random, put_track: PutTrack) -> Vec<u8> {
     let mut image = Vec::new();
     for (place, track) in TRACKS.into_iter().enumerate() {
         let left_out = if place == 0 {
@@ -103,6 +116,18 @@ fn put_track(random: &mut Random, image: &mut Vec<u8>, track: TrackAddress) {
             2 | 3 => random.within(20..=60),
             _ => random.within(1..=12),
         };
+        let (key, data) = (random.bytes(key), random.bytes(data));
+        put_record(image, track, number, &key, &data);
+    }
+}
+
+fn put_long_track(random: &mut Random, image: &mut Vec<u8>, track: TrackAddress) {
+    put_home_address(image, track);
+    let first = random.within(1..=253) as u8;
+    for number in [0, first, first + 1, first + 2] {
+        let key = random.pick(&[0, 0, 1, 255]);
+        let any = random.within(1..=LONGEST_RECORD - key);
+        let data = random.pick(&[255, 256, 257, any, LONGEST_RECORD - key]);
         let (key, data) = (random.bytes(key), random.bytes(data));
         put_record(image, track, number, &key, &data);
     }

@@ -1,18 +1,20 @@
-//! Runs over small images: chains with a plan, chains changed in one place, chains with no plan,
-//! and restarts.
+//! Runs over images of few records: chains with a plan, chains changed in one place, chains with no
+//! plan, and restarts.
 
 mod change;
 mod ground;
 mod plan;
 mod restart;
 mod scatter;
+pub mod steps;
 
 pub use crate::cases::{Lent as GeneratedRun, Restart as GeneratedRestart};
 use crate::random::Random;
 use crate::simulator::channel::Restart;
-use crate::simulator::run::{run, run_restarted, Lent, Outcome};
+use crate::simulator::run::{run_restarted_watched, run_watched, Lent, Outcome, Watch};
 use crate::simulator::{Refusal, LAST_CYLINDER};
 use ground::Ground;
+pub use scatter::COMMANDS;
 
 impl GeneratedRun {
     fn of(random: &mut Random, ground: Ground, chain: Vec<u8>, arguments: Vec<u8>) -> GeneratedRun {
@@ -29,6 +31,11 @@ impl GeneratedRun {
 
     /// What the simulator says of it; storage is left as the run leaves it.
     pub fn simulated(&mut self) -> Result<Outcome, Refusal> {
+        self.watched(&mut ())
+    }
+
+    /// The same, and `watch` is told of the run.
+    pub fn watched(&mut self, watch: &mut impl Watch) -> Result<Outcome, Refusal> {
         let lent = Lent {
             chain: &self.chain,
             arguments: &self.arguments,
@@ -36,13 +43,13 @@ impl GeneratedRun {
             faults: &self.faults,
         };
         match &self.restart {
-            None => run(lent, &mut self.storage, self.limit, LAST_CYLINDER),
+            None => run_watched(lent, &mut self.storage, self.limit, LAST_CYLINDER, watch),
             Some(restart) => {
                 let restart = Restart {
                     program: &restart.program,
                     arguments: &restart.arguments,
                 };
-                run_restarted(lent, restart, &mut self.storage, LAST_CYLINDER)
+                run_restarted_watched(lent, restart, &mut self.storage, LAST_CYLINDER, watch)
             }
         }
     }
@@ -61,7 +68,9 @@ pub fn generated(random: &mut Random, turn: usize) -> (&'static str, GeneratedRu
     let of_kind = turn / 16;
     match turn % 16 {
         0 => ("random bytes", scatter::random_bytes(random)),
-        1 | 2 => ("random CCWs", scatter::random_ccws(random)),
+        1 => ("random CCWs", scatter::random_ccws(random)),
+        2 => ("random steps", steps::random_steps(random)),
+        3 if of_kind % 4 == 0 => ("plan over long records", plan::planned_long(random)),
         3..=7 => ("plan", plan::planned(random)),
         8 => ("plan with a loop", plan::planned_loop(random)),
         9..=11 => {
@@ -79,7 +88,11 @@ pub fn generated(random: &mut Random, turn: usize) -> (&'static str, GeneratedRu
             change::changed_restart(random, of_kind, run)
         }
         _ => {
-            let run = plan::planned(random);
+            let run = if random.once_in(4) {
+                restart::anywhere(random)
+            } else {
+                plan::planned(random)
+            };
             change::refused(random, of_kind, run)
         }
     }

@@ -18,6 +18,12 @@ pub fn planned(random: &mut Random) -> GeneratedRun {
     planned_on(random, ground)
 }
 
+/// Lengths, counts and displacements of two bytes.
+pub fn planned_long(random: &mut Random) -> GeneratedRun {
+    let ground = Ground::long(random);
+    planned_on(random, ground)
+}
+
 /// Up to here one more step and an end fit a chain.
 const ROOM_LEFT: usize = 1_800;
 

@@ -1,5 +1,7 @@
 //! One input given to library and simulator.
 
+mod run;
+
 use crate::library;
 use crate::simulator::areas::{check_restart, check_run, RunSizes};
 use crate::simulator::{answer, check_extent, check_faults, check_image, Refusal, LAST_CYLINDER};
@@ -13,7 +15,7 @@ struct Hexadecimal<'a>(&'a [u8]);
 
 impl fmt::Display for Hexadecimal<'_> {
     fn fmt(&self, out: &mut fmt::Formatter) -> fmt::Result {
-        const SHOWN: usize = 96;
+        const SHOWN: usize = 512;
         let bytes = self.0;
         let cut = bytes.len() > 2 * SHOWN;
         let front = if cut { SHOWN } else { bytes.len() };

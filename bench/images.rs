@@ -1,0 +1,50 @@
+//! Checking images.
+
+use crate::library;
+use crate::simulator::large::{image_of, TracksOf};
+use crate::simulator::{answer, check_image, LAST_CYLINDER};
+use crate::times::{measured, Times};
+use std::hint::black_box;
+
+const FULL: usize = 1_048_576;
+const HALF: usize = FULL / 2;
+
+pub fn print() {
+    let workloads = [
+        ("tracks of 2 records after R0", TracksOf::TWO_RECORDS, 4),
+        ("tracks of 255 records after R0", TracksOf::MANY_RECORDS, 4),
+        ("records of 13,030 bytes", TracksOf::LONG_RECORD, 1_000),
+    ];
+    println!(
+        "{:<32}{:>10}{:>14}{:>14}{:>8}",
+        "checking an image", "bytes", "library ns", "simulator ns", "ratio"
+    );
+    for (name, tracks, calls) in workloads {
+        let [half, full] = [HALF, FULL].map(|size| {
+            let times = checked(image_of(size, tracks), calls);
+            println!(
+                "{name:<32}{size:>10}{:>14.0}{:>14.0}{:>8.2}",
+                times.library,
+                times.simulator,
+                times.ratio()
+            );
+            times
+        });
+        println!(
+            "{:<32}{:>10}{:>14.2}{:>14.2}",
+            "  full over half",
+            "",
+            full.library / half.library,
+            full.simulator / half.simulator
+        );
+    }
+}
+
+fn checked(image: Vec<u8>, calls: u32) -> Times {
+    let mut lent = image.clone();
+    let mut library = || library::check_image(black_box(&mut lent));
+    let simulator = || answer(&check_image(black_box(&image), LAST_CYLINDER));
+    let answers = [library(), simulator()];
+    assert_eq!(answers, [0, 0], "library and simulator accept the image");
+    measured(calls, library, simulator)
+}

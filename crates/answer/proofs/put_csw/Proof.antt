@@ -1,0 +1,64 @@
+-- `answer::put_csw` meets its contract: each byte is a number's low eight bits. Assumes nothing.
+use Rattle.answer.proofs.Written.{csw-written}
+use borrow.Author.Needs.{needs}
+use Rattle.answer.proofs.put_csw.Statement.{statement}
+use Rattle.answer.proofs.put_csw.Tie as tie
+
+low-requires : tie.Need-low-requires
+low-requires c κs = search needs
+
+low-requires-2 : tie.Need-low-requires-2
+low-requires-2 c κs = search needs
+
+low-requires-3 : tie.Need-low-requires-3
+low-requires-3 c κs = search needs
+
+wide-requires : tie.Need-wide-requires
+wide-requires c κs = search needs
+
+low-requires-4 : tie.Need-low-requires-4
+low-requires-4 c κs = search needs
+
+wide-requires-2 : tie.Need-wide-requires-2
+wide-requires-2 c κs = search needs
+
+low-requires-5 : tie.Need-low-requires-5
+low-requires-5 c κs = search needs
+
+low-requires-6 : tie.Need-low-requires-6
+low-requires-6 c κs = search needs
+
+low-requires-7 : tie.Need-low-requires-7
+low-requires-7 c κs = search needs
+
+slice-aggregate-put : tie.Need-slice-aggregate-put
+slice-aggregate-put c = search needs
+
+put-requires : tie.Need-put-requires
+put-requires c κs = search needs
+
+same-length : tie.Need-same-length
+same-length c = search needs
+
+returns : tie.Need-returns
+returns c =
+    csw-written _ (c .before .before .before .before .before .before .before .before .before .before .before .before .before .before .before .before .before .before .args .to .now) _ (c .before .before .before .before .before .before .before .before .before .before .before .before .before .before .low .ensures) (c .before .before .before .before .before .before .before .before .before .before .before .before .low2 .ensures) (c .before .before .before .before .before .before .before .before .before .before .before .low3 .ensures) (c .before .before .before .before .before .before .before .before .before .before .wide .ensures .0) (c .before .before .before .before .before .before .before .before .before .low4 .ensures) (c .before .before .before .before .before .before .before .before .wide2 .ensures .0) (c .before .before .before .before .before .before .before .low5 .ensures)
+    (c .before .before .before .before .before .low6 .ensures) (c .before .before .before .before .low7 .ensures) (c .before .before .put .ensures)
+
+pub put-csw-spec : {M : Type 1} → statement M
+put-csw-spec =
+    tie.close
+    (tie.spec
+    low-requires
+    low-requires-2
+    low-requires-3
+    wide-requires
+    low-requires-4
+    wide-requires-2
+    low-requires-5
+    low-requires-6
+    low-requires-7
+    slice-aggregate-put
+    put-requires
+    same-length
+    returns)

@@ -1,0 +1,69 @@
+-- `answer::put_cut` meets its contract: its three parts make the whole. Assumes nothing.
+use mathlib.Core.List.{[], _++_}
+use Rattle.base.specs.Bytes.{two}
+use Rattle.channel.specs.Ccw.{addressOf}
+use Rattle.drive.specs.Step as Step
+use Rattle.command.specs.Answer.{cutOf}
+use Rattle.answer.specs.Answer.{cswBytes, maskBytes}
+use Rattle.answer.proofs.Whole.{csw-length, cut-length, last-length, last-like, whole}
+use borrow.Author.Needs.{needs}
+use Rattle.answer.proofs.put_cut.Statement.{statement}
+use Rattle.answer.proofs.put_cut.Tie as tie
+
+put-csw-requires : tie.Need-put-csw-requires
+put-csw-requires c κs = search needs
+
+sub-put-cut-sense : tie.Need-sub-put-cut-sense
+sub-put-cut-sense c = search needs
+
+part-put-cut-sense-start : tie.Need-part-put-cut-sense-start
+part-put-cut-sense-start c = search needs
+
+part-put-cut-sense-end : tie.Need-part-put-cut-sense-end
+part-put-cut-sense-end c = search needs
+
+put-cut-sense-requires : tie.Need-put-cut-sense-requires
+put-cut-sense-requires c κs = search needs
+
+sub-put-last : tie.Need-sub-put-last
+sub-put-last c = search needs
+
+part-put-last-start : tie.Need-part-put-last-start
+part-put-last-start c = search needs
+
+part-put-last-end : tie.Need-part-put-last-end
+part-put-last-end c = search needs
+
+low-address-requires : tie.Need-low-address-requires
+low-address-requires c κs = search needs
+
+put-last-requires : tie.Need-put-last-requires
+put-last-requires c κs = search needs
+
+same-length : tie.Need-same-length
+same-length c = search needs
+
+returns : tie.Need-returns
+returns c =
+    let start = c .before .before .before .before .before .before .before .before .before .before .before .before .before .before in
+    let k = start .args .k in
+    let l = last-like (k .mask) _ _ (c .before .before .before .low-address .ensures) in
+    whole (cswBytes (k .csw)) (Step.cutSense (cutOf k [])) (maskBytes (k .mask) ++ two (addressOf (k .first))) (start .args .answer .now) _ _ (start .pre)
+    (csw-length (k .csw)) (cut-length k) (last-length (k .mask) _) (c .before .before .before .before .before .before .before .before .before .before .before .put-csw .ensures) (c .before .before .before .before .before .before .before .put-cut-sense .ensures) _ (rw l at (c .before .before .put-last .ensures))
+
+pub put-cut-spec : {M : Type 1} → statement M
+put-cut-spec =
+    tie.close
+    (tie.spec
+    put-csw-requires
+    sub-put-cut-sense
+    part-put-cut-sense-start
+    part-put-cut-sense-end
+    put-cut-sense-requires
+    sub-put-last
+    part-put-last-start
+    part-put-last-end
+    low-address-requires
+    put-last-requires
+    same-length
+    returns)

@@ -1,0 +1,41 @@
+-- A run's answer as 36 bytes: CSW 8, sense 24, whether a file mask was set 1, the mask 1, address of a cut read's first CCW 2.
+use Prim.Native.Nat.{ℕ, _%_}
+use mathlib.Core.Path.{_≡_}
+use mathlib.Core.List.{List, [], _∷_, _++_, map}
+use Rattle.base.specs.Choice.{pick, opt}
+use Rattle.base.specs.Bytes.{two, three}
+use Rattle.channel.specs.declared.Csw.{Csw}
+use Rattle.drive.specs.declared.FileMask.{FileMask}
+use Rattle.drive.specs.declared.FileMask.the-variants.{Unset, Set}
+use Rattle.trial.specs.declared.Ran.{Ran}
+use Rattle.trial.specs.Run.{ranOf}
+use Rattle.trial.specs.Trial.{Shown, shownOf}
+
+-- "CSW: 00, last CCW's address plus 8 (3), unit status .., channel status .., count left 2"
+unfoldable pub cswBytes : Csw → List ℕ
+cswBytes w = 0 ∷ three (w .address) ++ w .unit ∷ w .channel ∷ two (w .count)
+
+-- whether a mask was set, and which; 0 where none was
+unfoldable pub maskBytes : FileMask → List ℕ
+maskBytes Unset = 0 ∷ 0 ∷ []
+maskBytes (Set m) = 1 ∷ m ∷ []
+
+-- numbers as bytes: the low eight bits of each
+unfoldable pub lowered : List ℕ → List ℕ
+lowered s = map (λ n. n % 256) s
+
+-- what a run shows, in that order; the address is 0 where there is no cut
+unfoldable pub answerBytes : Shown → List ℕ
+answerBytes x = lowered (cswBytes (x .csw) ++ x .sense ++ (maskBytes (x .mask) ++ two (opt (x .first) 0 (λ a. a))))
+
+-- 10 for "limit", 0 for any other end
+unfoldable pub endNumber : Shown → ℕ
+endNumber x = pick (x .limited) 10 0
+
+-- ---- what the code answers, whatever storage is behind the run
+
+abbrev pub Writes : Ran → List ℕ → Type 0
+Writes r after = (st : List ℕ) → after ≡ answerBytes (shownOf (ranOf r st))
+
+abbrev pub Numbers : Ran → ℕ → Type 0
+Numbers r n = (st : List ℕ) → n ≡ endNumber (shownOf (ranOf r st))

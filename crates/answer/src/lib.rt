@@ -1,0 +1,231 @@
+// A run's answer as bytes.
+use channel::Csw;
+use channel::Location;
+use command::Check;
+use command::Cut;
+use command::Status;
+use drive::FileMask;
+use trial::Ran;
+ghost use mathlib.Core.Path.{_≡_};
+ghost use mathlib.Core.List.{[], _∷_, _++_};
+ghost use Prim.Native.Nat.{_%_, _≤_};
+ghost use lib.ListN.{length, drop, replicate};
+ghost use Rattle.base.specs.Choice.{pick};
+ghost use Rattle.base.specs.Bytes.{two};
+ghost use Rattle.channel.specs.Ccw.{addressOf};
+ghost use Rattle.drive.specs.Step as Step;
+ghost use Rattle.command.specs.Answer.{senseOf, cutOf};
+ghost use Rattle.trial.specs.Run.{RanLow};
+ghost use Rattle.answer.specs.Answer.{cswBytes, maskBytes, lowered, Writes, Numbers};
+
+// The low eight bits of a number.
+fn low(n: usize) -> u8
+    ensures { λ r. ⌜ r ≡ n % 256 ⌝ }
+{
+    (n % 256) as u8
+}
+
+// ---- the parts of an answer, each at the front of what is lent
+
+fn put_csw(to: &mut [u8], w: Csw)
+    requires { ⌜ 8 ≤ length (now to) ⌝ }
+    ensures { λ _. ⌜ now (to .exit) ≡ lowered (cswBytes w) ++ drop 8 (now (to .entry)) ⌝ }
+{
+    copy::put(
+        to,
+        &[
+            0,
+            low(w.address / 65536),
+            low(w.address / 256),
+            low(w.address),
+            low(base::wide(w.unit)),
+            low(base::wide(w.channel)),
+            low(w.count / 256),
+            low(w.count),
+        ],
+    );
+}
+
+// 24 sense bytes of which only the first two are not 0.
+fn put_check(to: &mut [u8], first: u8, second: u8)
+    requires { ⌜ 24 ≤ length (now to) ⌝ }
+    ensures { λ _. ⌜ now (to .exit) ≡ (first ∷ second ∷ replicate 22 0) ++ drop 24 (now (to .entry)) ⌝ }
+{
+    copy::put(
+        to,
+        &[
+            first,
+            second,
+            0,
+            0,
+            0,
+            0,
+            0,
+            0,
+            0,
+            0,
+            0,
+            0,
+            0,
+            0,
+            0,
+            0,
+            0,
+            0,
+            0,
+            0,
+            0,
+            0,
+            0,
+            0,
+        ],
+    );
+}
+
+// The sense of an end that no faulted data area made.
+fn put_status(to: &mut [u8], s: Status)
+    requires { ⌜ 24 ≤ length (now to) ⌝ }
+    ensures { λ _. ⌜ now (to .exit) ≡ lowered (senseOf s) ++ drop 24 (now (to .entry)) ⌝ }
+{
+    match s {
+        Status::Quiet => put_check(to, 0, 0),
+        Status::Refused(k) => match k {
+            Check::Rejected => put_check(to, 0x80, 0),
+            Check::NotFound => put_check(to, 0, 0x08),
+            Check::Protected => put_check(to, 0, 0x04),
+        },
+    }
+}
+
+// Bit 7 of the last sense byte: whether the count ran out first.
+fn over_bit(over: bool) -> u8
+    ensures { λ r. ⌜ r ≡ pick over 1 0 ⌝ }
+{
+    if over {
+        return 1;
+    }
+    0
+}
+
+// The sense of a cut.
+fn put_cut_sense(to: &mut [u8], k: Cut)
+    requires { ⌜ 24 ≤ length (now to) ⌝ }
+    ensures { λ _. ⌜ now (to .exit) ≡ lowered (Step.cutSense (cutOf k [])) ++ drop 24 (now (to .entry)) ⌝ }
+{
+    let at = k.at;
+    copy::put(
+        to,
+        &[
+            0x08,
+            0,
+            0x40,
+            0,
+            0,
+            0,
+            0,
+            0x53,
+            low(at.cylinder / 256),
+            low(at.cylinder),
+            low(at.head / 256),
+            low(at.head),
+            low(k.r),
+            0,
+            0,
+            low(k.restart / 65536),
+            low(k.restart / 256),
+            low(k.restart),
+            low(k.error / 256),
+            low(k.error),
+            low(base::wide(k.pattern0)),
+            low(base::wide(k.pattern1)),
+            low(base::wide(k.pattern2)),
+            over_bit(k.over),
+        ],
+    );
+}
+
+// The file mask, and the address of a cut read's first CCW.
+fn put_last(to: &mut [u8], mask: FileMask, first: usize)
+    requires { ⌜ 4 ≤ length (now to) ⌝ }
+    ensures { λ _. ⌜ now (to .exit) ≡ lowered (maskBytes mask ++ two first) ++ drop 4 (now (to .entry)) ⌝ }
+{
+    match mask {
+        FileMask::Unset => copy::put(to, &[0, 0, low(first / 256), low(first)]),
+        FileMask::Set(m) => {
+            copy::put(to, &[1, low(base::wide(m)), low(first / 256), low(first)])
+        }
+    }
+}
+
+// A number with the two low bytes of a CCW's address.
+fn low_address(l: Location) -> usize
+    ensures { λ r. ⌜ lowered (two r) ≡ lowered (two (addressOf l)) ⌝ }
+{
+    match l {
+        Location::Chain(a) => a,
+        Location::Restart(a) => 0x1000 + a % 65536,
+    }
+}
+
+// ---- the whole answer
+
+// An end, or "limit".
+fn put_end(answer: &mut [u8], w: Csw, s: Status, mask: FileMask)
+    requires { ⌜ length (now answer) ≡ 36 ⌝ }
+    ensures { λ _. ⌜ now (answer .exit) ≡ lowered (cswBytes w ++ senseOf s ++ (maskBytes mask ++ two 0)) ⌝ }
+{
+    put_csw(answer, w);
+    put_status(&mut answer[8..], s);
+    put_last(&mut answer[32..], mask, 0);
+}
+
+fn put_cut(answer: &mut [u8], k: Cut)
+    requires { ⌜ length (now answer) ≡ 36 ⌝ }
+    ensures { λ _. ⌜ now (answer .exit) ≡ lowered (cswBytes (k .csw) ++ Step.cutSense (cutOf k []) ++ (maskBytes (k .mask) ++ two (addressOf (k .first)))) ⌝ }
+{
+    put_csw(answer, k.csw);
+    put_cut_sense(&mut answer[8..], k);
+    let mask = k.mask;
+    let first = k.first;
+    put_last(&mut answer[32..], mask, low_address(first));
+}
+
+// What a run comes to, into an area of 36 bytes.
+pub fn put(answer: &mut [u8], r: Ran)
+    requires { ⌜ length (now answer) ≡ 36 ⌝ }
+    requires { ⌜ RanLow r ⌝ }
+    ensures { λ _. ⌜ Writes r (now (answer .exit)) ⌝ }
+{
+    match r {
+        Ran::Ended(e) => {
+            let status = e.status;
+            let mask = e.mask;
+            put_end(answer, e.csw, status, mask);
+        }
+        Ran::Cut(k) => {
+            put_cut(answer, k);
+        }
+        Ran::Limited(s) => {
+            let last = s.last;
+            let d = s.drive;
+            let mask = d.mask;
+            put_end(
+                answer,
+                command::csw_at(last, 0x0c, 0, s.left),
+                Status::Quiet,
+                mask,
+            );
+        }
+    }
+}
+
+// 10 for "limit", 0 for any other end.
+pub fn number(r: Ran) -> u8
+    ensures { λ n. ⌜ Numbers r n ⌝ }
+{
+    match r {
+        Ran::Ended(_) => 0,
+        Ran::Cut(_) => 0,
+        Ran::Limited(_) => 10,
+    }
+}

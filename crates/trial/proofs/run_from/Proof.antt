@@ -1,0 +1,46 @@
+-- `trial::run_from` meets its contract: a TIC first is a program check, any other run is `run_on` from the start. Assumes nothing.
+use mathlib.Core.Path.{refl, sym, _∙_}
+use Rattle.position.proofs.Image.{sound}
+use Rattle.trial.proofs.Runs.{checked-first, begun-so}
+use borrow.Author.Needs.{needs}
+use Rattle.trial.proofs.run_from.Statement.{statement}
+use Rattle.trial.proofs.run_from.Tie as tie
+
+tic-first-requires : tie.Need-tic-first-requires
+tic-first-requires c κs = search needs
+
+csw-at-requires : tie.Need-csw-at-requires
+csw-at-requires c κs = search needs
+
+returns : tie.Need-returns
+returns c =
+    let t = c .before .before .tic-first .ensures in
+    (checked-first _ _ _ _ _ _ _ _ _ _ (c .csw-at .ensures) (sym (c .before .if1 .taken) ∙ t _ refl refl), tt)
+
+initial-requires : tie.Need-initial-requires
+initial-requires c κs = sound _ _ (c .before .before .before .before .before .before .before .before .before .pre .0 .whole)
+
+run-on-requires : tie.Need-run-on-requires
+run-on-requires c κs = search needs
+
+same-length : tie.Need-same-length
+same-length c = search needs
+
+returns-2 : tie.Need-returns-2
+returns-2 c =
+    let t = c .before .before .before .before .before .before .tic-first .ensures in
+    let ran = c .before .before in
+    let start = c .before .before .before .before in
+    (begun-so _ _ _ _ _ _ _ _ _ (start .initial .result) (start .initial .ensures .0) (sym (start .before .if1 .left) ∙ t _ refl refl) (ran .run-on .result) _ (ran .run-on .ensures .0), ran .run-on .ensures .1)
+
+pub run-from-spec : {M : Type 1} → statement M
+run-from-spec =
+    tie.close
+    (tie.spec
+    tic-first-requires
+    csw-at-requires
+    returns
+    initial-requires
+    run-on-requires
+    same-length
+    returns-2)

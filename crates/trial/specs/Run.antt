@@ -1,0 +1,46 @@
+-- A run as the code has it: the definitions' results with storage apart.
+use Prim.Native.Nat.{ℕ}
+use mathlib.Core.Path.{_≡_}
+use mathlib.Core.Bool.{Bool}
+use mathlib.Core.Option.{some}
+use mathlib.Core.List.{List}
+use Rattle.faults.specs.Faults.{Fault, faultsAt}
+use Rattle.machine.specs.Machine as Machine
+use Rattle.machine.specs.Machine.{Result, ended, cut, limit}
+use Rattle.channel.specs.declared.Location.{Location}
+use Rattle.channel.specs.Ccw.{Lent}
+use Rattle.drive.specs.Step as Step
+use Rattle.drive.specs.Run.{ticFirst, runFrom}
+use Rattle.command.specs.declared.State.{State}
+use Rattle.command.specs.Answer.{stateOf, endOf, cutOf, settingOf, Low}
+use Rattle.execute.specs.Executes.{lentOf}
+use Rattle.trial.specs.declared.Ran.{Ran}
+use Rattle.trial.specs.declared.Ran.the-variants.{Ended, Cut, Limited}
+
+-- what a run comes to, with storage behind it
+abbrev pub ranOf : Ran → List ℕ → Result Step.State Step.End Step.Cut
+ranOf (Ended e) st = ended (endOf e st)
+ranOf (Cut k) st = cut (cutOf k st)
+ranOf (Limited s) st = limit (stateOf s st)
+
+-- the CCW that was fetched last has an address that a CSW can show
+abbrev pub RanLow : Ran → Type 0
+RanLow (Ended e) = Unit {0}
+RanLow (Cut k) = Unit {0}
+RanLow (Limited s) = Low (s .last)
+
+-- whether a run begins with a TIC: its code sees the chain and the restart program alone
+abbrev pub TicsFirst : (chain program : List ℕ) → Location → Bool → Type 0
+TicsFirst chain program l b = (p : Lent) → p .chain ≡ chain → p .program ≡ program → b ≡ ticFirst p l
+
+-- at most n commands from a state and storage on: what they come to, and storage behind them
+abbrev pub RunsOn : (chain arguments program restarts image faults : List ℕ) → ℕ → State → List ℕ → Ran → List ℕ → Type 0
+RunsOn chain arguments program restarts image faults n s st r after =
+    (fs : List Fault) → faultsAt faults 0 ≡ some fs
+    → Machine.run (Step.step fs (settingOf (lentOf chain arguments program restarts) image)) n (stateOf s st) ≡ ranOf r after
+
+-- the whole run, from a place and storage
+abbrev pub Runs : (chain arguments program restarts image faults : List ℕ) → ℕ → Location → List ℕ → Ran → List ℕ → Type 0
+Runs chain arguments program restarts image faults n l st r after =
+    (fs : List Fault) → faultsAt faults 0 ≡ some fs
+    → runFrom fs (settingOf (lentOf chain arguments program restarts) image) n l st ≡ ranOf r after

@@ -1,0 +1,252 @@
+// The run of a chain over an image with a fault list.
+use address::LAST_CYLINDER;
+use channel::Location;
+use channel::Slot;
+use command::Answer;
+use command::Cut;
+use command::End;
+use command::State;
+use command::Status;
+use drive::FileMask;
+use position::Drive;
+use questions::Question;
+ghost use mathlib.Core.Path.{_≡_};
+ghost use Prim.Native.Nat.{_≤_};
+ghost use lib.ListN.{length};
+ghost use Rattle.position.specs.Standing.{Standing};
+ghost use Rattle.command.specs.Answer.{Low};
+ghost use Rattle.execute.specs.Executes.{lentOf, Begun};
+ghost use Rattle.trial.specs.Run.{TicsFirst, RunsOn, Runs, RanLow};
+ghost use Rattle.trial.specs.Trial.{runCall, restartCall, calledOf, conclusionOf, TrialLow};
+
+// What a run comes to: an end, a cut by a faulted data area, or "limit" with the state behind its last command.
+pub enum Ran {
+    Ended(End),
+    Cut(Cut),
+    Limited(State),
+}
+
+// What a call comes to: a refusal, or the run.
+pub enum Trial {
+    Refused(Question),
+    Ran(Ran),
+}
+
+// ---- the run
+
+// Whether a run begins with a TIC.
+fn tic_first(chain: &[u8], program: &[u8], from: Location) -> bool
+    ensures { λ r. ⌜ TicsFirst (now (chain .entry)) (now (program .entry)) from r ⌝ }
+{
+    match channel::fetch(chain, program, from) {
+        Slot::Holds(c) => c.is_tic(),
+        Slot::Past => false,
+    }
+}
+
+// At most `limit` commands, from a state on.
+fn run_on(
+    chain: &[u8],
+    arguments: &[u8],
+    program: &[u8],
+    restarts: &[u8],
+    image: &[u8],
+    faults: &[u8],
+    limit: usize,
+    s: State,
+    storage: &mut [u8],
+) -> Ran
+    requires { ⌜ Begun (now chain) (now program) (now image) (now faults) ⌝ }
+    requires { ⌜ Standing (now image) (s .drive) ⌝ }
+    requires { ⌜ Low (s .last) ⌝ }
+    ensures { λ r. ⌜ RunsOn (now (chain .entry)) (now (arguments .entry)) (now (program .entry)) (now (restarts .entry)) (now (image .entry)) (now (faults .entry)) limit s (now (storage .entry)) r (now (storage .exit)) ⌝ }
+    ensures { λ r. ⌜ RanLow r ⌝ }
+{
+    let mut here = s;
+    let mut left = limit;
+    while left > 0 {
+        left -= 1;
+        match execute::step(
+            chain,
+            arguments,
+            program,
+            restarts,
+            image,
+            faults,
+            here,
+            storage,
+        ) {
+            Answer::Goes(t) => {
+                here = t;
+            }
+            Answer::Ends(e) => {
+                return Ran::Ended(e);
+            }
+            Answer::Cuts(k) => {
+                return Ran::Cut(k);
+            }
+        }
+    }
+    Ran::Limited(here)
+}
+
+// A run from a CCW of the chain or of the restart program.
+pub fn run_from(
+    chain: &[u8],
+    arguments: &[u8],
+    program: &[u8],
+    restarts: &[u8],
+    image: &[u8],
+    faults: &[u8],
+    limit: usize,
+    from: Location,
+    storage: &mut [u8],
+) -> Ran
+    requires { ⌜ Begun (now chain) (now program) (now image) (now faults) ⌝ }
+    requires { ⌜ Low from ⌝ }
+    ensures { λ r. ⌜ Runs (now (chain .entry)) (now (arguments .entry)) (now (program .entry)) (now (restarts .entry)) (now (image .entry)) (now (faults .entry)) limit from (now (storage .entry)) r (now (storage .exit)) ⌝ }
+    ensures { λ r. ⌜ RanLow r ⌝ }
+{
+    if tic_first(chain, program, from) {
+        return Ran::Ended(End {
+            csw: command::csw_at(from, 0, 0x20, 0),
+            status: Status::Quiet,
+            mask: FileMask::Unset,
+        });
+    }
+    let s = State {
+        at: from,
+        last: from,
+        left: 0,
+        drive: Drive::initial(image),
+    };
+    run_on(
+        chain,
+        arguments,
+        program,
+        restarts,
+        image,
+        faults,
+        limit,
+        s,
+        storage,
+    )
+}
+
+// ---- the calls
+
+// Questions 2 and 3, and then the run.
+fn begin(
+    chain: &[u8],
+    arguments: &[u8],
+    program: &[u8],
+    restarts: &[u8],
+    image: &[u8],
+    faults: &[u8],
+    limit: usize,
+    from: Location,
+    storage: &mut [u8],
+) -> Trial
+    requires { ⌜ (length (now chain) ≤ 2048) × (length (now program) ≤ 64) ⌝ }
+    requires { ⌜ Low from ⌝ }
+    ensures { λ r. ⌜ conclusionOf r (now (storage .exit)) ≡ Rattle.trial.specs.Trial.begin (lentOf (now (chain .entry)) (now (arguments .entry)) (now (program .entry)) (now (restarts .entry))) (now (image .entry)) (now (faults .entry)) limit from (now (storage .entry)) ⌝ }
+    ensures { λ r. ⌜ TrialLow r ⌝ }
+{
+    if !image::well_formed(image, LAST_CYLINDER) {
+        return Trial::Refused(Question::Image);
+    }
+    if !faults::sound_faults(image, faults) {
+        return Trial::Refused(Question::Faults);
+    }
+    Trial::Ran(run_from(
+        chain,
+        arguments,
+        program,
+        restarts,
+        image,
+        faults,
+        limit,
+        from,
+        storage,
+    ))
+}
+
+// A run of a chain: questions 1, 2 and 3, and then the run. A refusal leaves storage as it was.
+pub fn run(
+    chain: &[u8],
+    arguments: &[u8],
+    storage: &mut [u8],
+    image: &[u8],
+    faults: &[u8],
+    limit: usize,
+) -> Trial
+    ensures answer { λ r. ⌜ calledOf r (now (storage .exit)) ≡ (runCall (now (chain .entry)) (now (arguments .entry)) (now (storage .entry)) (now (image .entry)) (now (faults .entry)) limit) .answer ⌝ }
+    ensures storage { λ _. ⌜ now (storage .exit) ≡ (runCall (now (chain .entry)) (now (arguments .entry)) (now (storage .entry)) (now (image .entry)) (now (faults .entry)) limit) .storage ⌝ }
+    ensures low { λ r. ⌜ TrialLow r ⌝ }
+{
+    if !questions::run_areas(
+        chain.len(),
+        arguments.len(),
+        storage.len(),
+        image.len(),
+        faults.len(),
+        limit,
+    ) {
+        return Trial::Refused(Question::Areas);
+    }
+    begin(
+        chain,
+        arguments,
+        &chain[..0],
+        &chain[..0],
+        image,
+        faults,
+        limit,
+        Location::Chain(0),
+        storage,
+    )
+}
+
+// The command limit of a restarted run.
+const RESTART_LIMIT: usize = 8192;
+
+// A run of a restart program: the same questions, the two restart areas included. Its limit is not lent, so question 1 is asked with
+// one that fits.
+pub fn run_restart(
+    chain: &[u8],
+    arguments: &[u8],
+    program: &[u8],
+    restarts: &[u8],
+    storage: &mut [u8],
+    image: &[u8],
+    faults: &[u8],
+) -> Trial
+    ensures answer { λ r. ⌜ calledOf r (now (storage .exit)) ≡ (restartCall (now (chain .entry)) (now (arguments .entry)) (now (program .entry)) (now (restarts .entry)) (now (storage .entry)) (now (image .entry)) (now (faults .entry))) .answer ⌝ }
+    ensures storage { λ _. ⌜ now (storage .exit) ≡ (restartCall (now (chain .entry)) (now (arguments .entry)) (now (program .entry)) (now (restarts .entry)) (now (storage .entry)) (now (image .entry)) (now (faults .entry))) .storage ⌝ }
+    ensures low { λ r. ⌜ TrialLow r ⌝ }
+{
+    if !questions::run_areas(
+        chain.len(),
+        arguments.len(),
+        storage.len(),
+        image.len(),
+        faults.len(),
+        1,
+    ) {
+        return Trial::Refused(Question::Areas);
+    }
+    if !questions::restart_areas(program.len(), restarts.len()) {
+        return Trial::Refused(Question::Areas);
+    }
+    begin(
+        chain,
+        arguments,
+        program,
+        restarts,
+        image,
+        faults,
+        RESTART_LIMIT,
+        Location::Restart(0),
+        storage,
+    )
+}

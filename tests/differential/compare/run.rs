@@ -1,0 +1,181 @@
+//! One run given to library and simulator.
+
+use super::{Comparison, Disagreement, Hexadecimal};
+use crate::arena::Arena;
+use crate::chains::{GeneratedRestart, GeneratedRun};
+use crate::library::{self, RestartAreas, RunAreas, ANSWER, ENDED, LIMIT};
+use crate::marks::{Mark, Marks};
+use crate::random::Random;
+use crate::simulator::run::{End, Outcome};
+use crate::tally::{Call, RUN, RUN_RESTART};
+
+/// The areas of a run, in the order in which they are held here.
+const NAMES: [&str; 8] = [
+    "chain",
+    "arguments",
+    "restart program",
+    "restart arguments",
+    "storage",
+    "image",
+    "faults",
+    "answer",
+];
+
+type RunArena = Arena<8>;
+
+/// What a call answered, and all bytes as it left them.
+struct Left {
+    number: u8,
+    arena: RunArena,
+}
+
+impl Comparison {
+    /// Compares the answer, all areas and the bytes around them.
+    pub fn run(&mut self, kind: &'static str, run: GeneratedRun) -> Result<(), Disagreement> {
+        self.run_answering_in(kind, run, ANSWER)
+    }
+
+    /// The same with an area of any length to answer in.
+    pub fn run_answering_in(
+        &mut self,
+        kind: &'static str,
+        mut run: GeneratedRun,
+        answer_length: usize,
+    ) -> Result<(), Disagreement> {
+        let call = match run.restart {
+            None => RUN,
+            Some(_) => RUN_RESTART,
+        };
+        let lent = lend(&mut Random::new(self.tally.compared), &run, answer_length);
+        let by_library = by_library(&run, lent.clone());
+        let mut marks = Marks::default();
+        let by_simulator = self.by_simulator(&mut run, lent.clone(), &mut marks);
+        if by_library.number != by_simulator.number || by_library.arena != by_simulator.arena {
+            let before = self.tally.compared;
+            let head = format!(
+                "{}, {kind}: disagreement after {before} inputs\n",
+                call.name
+            );
+            let text = head + &describe(call, &lent, run.limit, &by_simulator, &by_library);
+            return Err(Disagreement(text));
+        }
+        self.tally.count(call, kind, by_simulator.number);
+        self.tally.count_marks(call, marks);
+        Ok(())
+    }
+
+    fn by_simulator(
+        &mut self,
+        run: &mut GeneratedRun,
+        mut arena: RunArena,
+        marks: &mut Marks,
+    ) -> Left {
+        let [.., storage, _, _, answer] = arena.lent();
+        if answer.len() != ANSWER {
+            marks.see(Mark::AnswerArea(answer.len()));
+            return Left { number: 1, arena };
+        }
+        let number = match run.watched(marks) {
+            Ok(outcome) => {
+                marks.see_end(&outcome);
+                storage.copy_from_slice(&run.storage);
+                answer.copy_from_slice(&written(&outcome));
+                match outcome.end {
+                    End::Limit => LIMIT,
+                    _ => ENDED,
+                }
+            }
+            Err(refusal) => {
+                self.tally.count_rule(refusal);
+                refusal.number()
+            }
+        };
+        Left { number, arena }
+    }
+}
+
+fn lend(random: &mut Random, run: &GeneratedRun, answer_length: usize) -> RunArena {
+    let answer = random.bytes(answer_length);
+    let (program, restart_arguments): (&[u8], &[u8]) = match &run.restart {
+        None => (&[], &[]),
+        Some(GeneratedRestart { program, arguments }) => (program, arguments),
+    };
+    let areas = [
+        &run.chain,
+        &run.arguments,
+        program,
+        restart_arguments,
+        &run.storage,
+        &run.image,
+        &run.faults,
+        &answer,
+    ];
+    Arena::new(random, areas)
+}
+
+fn by_library(run: &GeneratedRun, mut arena: RunArena) -> Left {
+    let [chain, arguments, program, restart_arguments, storage, image, faults, answer] =
+        arena.lent();
+    let areas = RunAreas {
+        chain,
+        arguments,
+        storage,
+        image,
+        faults,
+    };
+    let number = match run.restart {
+        None => library::run(areas, run.limit, answer),
+        Some(_) => {
+            let restart = RestartAreas {
+                program,
+                arguments: restart_arguments,
+            };
+            library::run_restart(areas, restart, answer)
+        }
+    };
+    Left { number, arena }
+}
+
+/// An outcome as the library writes it.
+fn written(outcome: &Outcome) -> [u8; ANSWER] {
+    let cut = outcome.cut.unwrap_or(0) as u16;
+    let mut answer = [0; ANSWER];
+    answer[..8].copy_from_slice(&outcome.csw);
+    answer[8..32].copy_from_slice(&outcome.sense);
+    answer[32] = outcome.mask.is_some().into();
+    answer[33] = outcome.mask.unwrap_or(0);
+    answer[34..].copy_from_slice(&cut.to_be_bytes());
+    answer
+}
+
+fn describe(
+    call: Call,
+    lent: &RunArena,
+    limit: usize,
+    by_simulator: &Left,
+    by_library: &Left,
+) -> String {
+    let mut text = String::new();
+    for (name, area) in NAMES.iter().zip(lent.areas()) {
+        text += &format!("  {name} {}\n", Hexadecimal(area));
+    }
+    if call == RUN {
+        text += &format!("  limit {limit}\n");
+    }
+    text += &format!("  simulator {}\n", by_simulator.number);
+    text += &format!("  library   {}", by_library.number);
+    let areas = by_simulator.arena.areas().into_iter();
+    let mut guards_alone = by_simulator.arena != by_library.arena;
+    for (name, (simulator, library)) in NAMES.iter().zip(areas.zip(by_library.arena.areas())) {
+        if simulator != library {
+            guards_alone = false;
+            let [simulator, library] = [simulator, library].map(Hexadecimal);
+            text += &format!("\n  {name} left by the simulator {simulator}");
+            text += &format!("\n  {name} left by the library   {library}");
+        }
+    }
+    if guards_alone {
+        text += "\n  the call changed bytes outside the areas";
+    }
+    text
+}

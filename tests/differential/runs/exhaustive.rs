@@ -1,0 +1,107 @@
+//! Small runs of which every one of a kind is tried.
+
+use crate::chains::{steps, GeneratedRestart, GeneratedRun};
+use crate::compare::{Comparison, Disagreement};
+use crate::exhaustive::each_byte_at_each_value;
+use crate::simulator::channel::{CCW_LENGTH, FLAGS_ZERO};
+use crate::simulator::{encode, sample};
+
+pub fn compare_all(comparison: &mut Comparison) -> Result<(), Disagreement> {
+    each_byte(comparison, &run_of_sample(None))?;
+    each_byte(comparison, &run_of_sample(Some(restart_of_sample())))?;
+    each_code_and_flags_byte(comparison)?;
+    each_limit(comparison)?;
+    each_five_steps(comparison)
+}
+
+/// Document 01's sample.
+fn run_of_sample(restart: Option<GeneratedRestart>) -> GeneratedRun {
+    GeneratedRun {
+        chain: sample::CHAIN.to_vec(),
+        arguments: sample::ARGUMENTS.to_vec(),
+        storage: vec![0xEE; 16],
+        image: sample::IMAGE.to_vec(),
+        faults: sample::FAULTS.to_vec(),
+        limit: 64,
+        restart,
+    }
+}
+
+/// The restart of the sample's cut, with a mask besides.
+fn restart_of_sample() -> GeneratedRestart {
+    let program = [
+        encode::ccw(0x07, 0x2000, 0x40, 6),
+        encode::ccw(0x1F, 0x2006, 0x40, 1),
+        encode::ccw(0x23, 0x2007, 0x40, 1),
+        encode::ccw(0x31, 0x2008, 0x40, 5),
+        encode::ccw(0x08, 0x1018, 0, 0),
+        encode::ccw(0x12, 0, 0x50, 8),
+        encode::ccw(0x08, 0x0020, 0, 0),
+        [0; CCW_LENGTH],
+    ];
+    GeneratedRestart {
+        program: program.concat(),
+        arguments: vec![0, 0, 0, 0, 0, 1, 0xC1, 0x7F, 0, 0, 0, 1, 1, 0, 0, 0],
+    }
+}
+
+/// Each byte of each area that is only read at each value.
+fn each_byte(comparison: &mut Comparison, run: &GeneratedRun) -> Result<(), Disagreement> {
+    type Area = fn(&mut GeneratedRun) -> Option<&mut Vec<u8>>;
+    const AREAS: [Area; 6] = [
+        |run| Some(&mut run.chain),
+        |run| Some(&mut run.arguments),
+        |run| Some(&mut run.image),
+        |run| Some(&mut run.faults),
+        |run| run.restart.as_mut().map(|restart| &mut restart.program),
+        |run| run.restart.as_mut().map(|restart| &mut restart.arguments),
+    ];
+    for area in AREAS {
+        let mut run = run.clone();
+        let Some(bytes) = area(&mut run) else {
+            continue;
+        };
+        for changed in each_byte_at_each_value(&bytes.clone()) {
+            let mut run = run.clone();
+            *area(&mut run).expect("the area is there") = changed;
+            comparison.run("sample, one byte set", run)?;
+        }
+    }
+    Ok(())
+}
+
+/// One CCW behind a seek, with each command code and each flags byte of high or of low bits.
+fn each_code_and_flags_byte(comparison: &mut Comparison) -> Result<(), Disagreement> {
+    let of_high_bits = (0..=255).filter(|flags| flags & FLAGS_ZERO == 0);
+    let flags = of_high_bits.chain(1..=FLAGS_ZERO);
+    for (code, flags) in flags.flat_map(|flags| (0..=255).map(move |code| (code, flags))) {
+        let mut run = run_of_sample(None);
+        run.chain.truncate(CCW_LENGTH);
+        run.chain.extend(encode::ccw(code, 0, flags, 5));
+        run.chain.extend(encode::ccw(0x03, 8, 0, 2));
+        comparison.run("each code and flags byte", run)?;
+    }
+    Ok(())
+}
+
+/// The sample with each limit up to its end and one more, and those refused; its fault cuts it in
+/// the fourth command, without it there is a fifth.
+fn each_limit(comparison: &mut Comparison) -> Result<(), Disagreement> {
+    for limit in [0, 1, 2, 3, 4, 5, 6, 4_096, 4_097, 1 << 32, usize::MAX] {
+        let mut run = run_of_sample(None);
+        run.limit = limit;
+        comparison.run("sample, each limit", run.clone())?;
+        run.faults.clear();
+        comparison.run("sample, each limit", run)?;
+    }
+    Ok(())
+}
+
+/// Every sequence of five steps over R0 alone, and over R0 and R1.
+fn each_five_steps(comparison: &mut Comparison) -> Result<(), Disagreement> {
+    for steps in steps::every_five() {
+        comparison.run("each five steps, R0 alone", steps::stepped(0, &steps))?;
+        comparison.run("each five steps, R0 and R1", steps::stepped(1, &steps))?;
+    }
+    Ok(())
+}
