@@ -73,7 +73,7 @@ carried-behind ps (walked qs l c n over) bs st =
 carried-behind ps (stopped qs l) bs st = rw (behindPlaces-stopped ps qs l) (ap (left (Checked l)) (store-append ps qs bs st ∙ rw (store-take ps bs st)))
 
 -- the count runs out with no CCW chained: bytes are left over where there are more
-walk-out : (p : Lent) (size n : ℕ) (l : Location) (c : Ccw) (k a : ℕ) → k ≤ n → chainsData c ≡ false
+pub walk-out : (p : Lent) (size n : ℕ) (l : Location) (c : Ccw) (k a : ℕ) → k ≤ n → chainsData c ≡ false
     → walk p size n l c k a ≡ behindPlaces (placesUnder c a k) (walked [] l c 0 (ltb k n))
 walk-out p size n l c k a h f =
     split (ltb k n) (λ e. rw e (walk-over p size n l c k a (ltb-true _ _ e) f))

@@ -24,7 +24,7 @@ pub enum Moved {
 }
 
 // The CCW behind one that was fetched.
-fn behind(chain: &[u8], program: &[u8], l: Location) -> Location
+pub fn behind(chain: &[u8], program: &[u8], l: Location) -> Location
     requires { ⌜ Inside (now chain) (now program) l ⌝ }
     ensures { λ r. ⌜ r ≡ next l ⌝ }
 {

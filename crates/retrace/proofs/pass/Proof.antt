@@ -1,0 +1,47 @@
+-- `retrace::pass` meets its contract: by whether the byte is one of the stretch. Assumes nothing.
+use mathlib.Core.Path.{refl, ap, sym, _∙_}
+use Rattle.retrace.proofs.Tests.{pass-skipped, pass-before, pass-here, pass-behind}
+use borrow.Author.Needs.{needs}
+use Rattle.retrace.proofs.pass.Statement.{statement}
+use Rattle.retrace.proofs.pass.Tie as tie
+
+skips-requires : tie.Need-skips-requires
+skips-requires c κs = search needs
+
+returns : tie.Need-returns
+returns c = pass-skipped (c .before .before .args .c) _ _ _ _ (sym (c .before .skips .ensures) ∙ c .if1 .taken)
+
+unless-struck-requires : tie.Need-unless-struck-requires
+unless-struck-requires c κs = search needs
+
+returns-2 : tie.Need-returns-2
+returns-2 c = pass-before (c .before .before .before .before .args .c) _ _ _ _ (sym (c .before .before .before .skips .ensures) ∙ c .before .before .if1 .left) _ (c .before .if2 .taken) (c .unless-struck .ensures)
+
+add-if3 : tie.Need-add-if3
+add-if3 c = search needs
+
+add-t10 : tie.Need-add-t10
+add-t10 c = search needs
+
+returns-3 : tie.Need-returns-3
+returns-3 c = pass-here (c .before .before .before .before .before .args .c) _ _ _ _ (sym (c .before .before .before .before .skips .ensures) ∙ c .before .before .before .if1 .left) (c .before .before .if2 .left) (c .before .if3 .taken)
+
+unless-struck-requires-2 : tie.Need-unless-struck-requires-2
+unless-struck-requires-2 c κs = search needs
+
+returns-4 : tie.Need-returns-4
+returns-4 c = pass-behind (c .before .before .before .before .before .args .c) _ _ _ _ (sym (c .before .before .before .before .skips .ensures) ∙ c .before .before .before .if1 .left) _ (c .before .before .if2 .left) (c .before .if3 .left) (c .unless-struck2 .ensures)
+
+pub pass-spec : {M : Type 1} → statement M
+pass-spec =
+    tie.close
+    (tie.spec
+    skips-requires
+    returns
+    unless-struck-requires
+    returns-2
+    add-if3
+    add-t10
+    returns-3
+    unless-struck-requires-2
+    returns-4)
