@@ -72,7 +72,7 @@ pub enum Answer {
 // ---- how a command ends
 
 // A CCW's address, as a CSW shows it.
-fn address_of(l: Location) -> usize
+pub fn address_of(l: Location) -> usize
     requires { ⌜ Low l ⌝ }
     ensures { λ r. ⌜ r ≡ addressOf l ⌝ }
 {
