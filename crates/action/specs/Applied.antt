@@ -17,6 +17,7 @@ use Rattle.channel.specs.declared.Ccw.{Ccw}
 use Rattle.channel.specs.declared.Csw.{Csw}
 use Rattle.channel.specs.declared.Location.{Location}
 use Rattle.channel.specs.Ccw.{addressOf}
+use Rattle.channel.specs.Walk.{walked}
 use Rattle.drive.specs.declared.FileMask.{FileMask}
 use Rattle.recovery.specs.Table.{Row}
 use Rattle.recovery.specs.Report.{Report}
@@ -65,9 +66,16 @@ abbrev pub reportWith : (sense : List ℕ) → Csw → ℕ → FileMask → Opti
 reportWith sense csw first mask seek tries = record { sense = sense; csw = csw; first = first; mask = mask; seek = seek; tries = tries }
 
 -- What f makes of every report with this sense, CSW, first CCW and mask.
-abbrev pub Acts : (Given → Report → Recovery.Recovery) → (chain sense : List ℕ) → Csw → ℕ → FileMask → Extent → (st p a : List ℕ) → Applied → Type 0
+abbrev pub Acts : (Given → Report → List ℕ → Recovery.Recovery) → (chain sense : List ℕ) → Csw → ℕ → FileMask → Extent → (st p a : List ℕ) → Applied → Type 0
 Acts f chain sense csw first mask x st p a out =
-    (rows : List Row) (seek : Option (List ℕ)) (tries : ℕ) → out ≡ applied (f (givenOf rows chain x) (reportWith sense csw first mask seek tries)) st p a
+    (rows : List Row) (seek : Option (List ℕ)) (tries : ℕ) → out ≡ applied (f (givenOf rows chain x) (reportWith sense csw first mask seek tries) st) st p a
+
+-- the areas that recovery is lent
+pub record Lent (chain sense program arguments : List ℕ) : Type 0 where
+  pub chain-short : length chain ≤ 2048
+  pub sense-full : length sense ≡ 24
+  pub program-full : length program ≡ 64
+  pub arguments-full : length arguments ≡ 16
 
 -- the restart displacement, and where the pattern begins in the read
 abbrev pub restartIn : List ℕ → ℕ
@@ -110,3 +118,23 @@ ActsAt f sense mask x spots st p a out =
 
 abbrev pub Builds : (sense : List ℕ) → FileMask → Extent → Spots → ℕ → Ccw → (st p a : List ℕ) → Applied → Type 0
 Builds sense mask x spots to d st p a out = ActsAt (λ ps. restartTo ps to d) sense mask x spots st p a out
+
+-- ---- with the chain, the CSW and the first CCW of the report
+
+-- what f makes of every report, and of every walk in which the three bytes stayed so
+abbrev pub ActsFrom : (List (Option ℕ) → Given → Report → List ℕ → Recovery.Recovery) → (chain sense : List ℕ) → Csw → FileMask → Extent → Spots → (st p a : List ℕ) → Applied → Type 0
+ActsFrom f chain sense csw mask x spots st p a out =
+    (rows : List Row) (first : ℕ) (seek : Option (List ℕ)) (tries : ℕ) (ps : List (Option ℕ)) → Known sense spots ps
+    → out ≡ applied (f ps (givenOf rows chain x) (reportWith sense csw first mask seek tries) st) st p a
+
+abbrev pub Concludes : (chain sense : List ℕ) → Csw → FileMask → Extent → Spots → Location → Ccw → Bool → (st p a : List ℕ) → Applied → Type 0
+Concludes chain sense csw mask x spots l c wrong st p a out =
+    ActsFrom (λ ps g r s. Recovery.afterWalk g r s ps l c wrong) chain sense csw mask x spots st p a out
+
+abbrev pub Agrees : (chain sense : List ℕ) → Csw → FileMask → Extent → Spots → Location → Ccw → ℕ → Bool → (st p a : List ℕ) → Applied → Type 0
+Agrees chain sense csw mask x spots l c left over st p a out =
+    ActsFrom (λ ps g r s. Recovery.walkedTo g r s (walked ps l c left over)) chain sense csw mask x spots st p a out
+
+abbrev pub Retraces : (chain sense : List ℕ) → Csw → ℕ → FileMask → Extent → Ccw → (st p a : List ℕ) → Applied → Type 0
+Retraces chain sense csw first mask x c st p a out =
+    Acts (λ g r s. Recovery.walkedTo g r s (Recovery.rewalk g r s c)) chain sense csw first mask x st p a out

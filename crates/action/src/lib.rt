@@ -15,14 +15,16 @@ use retrace::Spots;
 use retrace::Traced;
 ghost use mathlib.Core.Path.{_≡_};
 ghost use mathlib.Core.Bool.{true, _&&_};
+ghost use mathlib.Core.List.{[]};
 ghost use Prim.Native.Nat.{_<_, _≤_};
 ghost use lib.ListN.{length};
 ghost use Rattle.address.specs.Order.{lastCylinder, onPack};
 ghost use Rattle.address.specs.Within.{within};
-ghost use Rattle.channel.specs.Fetch.{Inside};
+ghost use Rattle.channel.specs.declared.Location.the-variants.{Chain};
+ghost use Rattle.channel.specs.Fetch.{InBytes, Inside};
 ghost use Rattle.command.specs.Answer.{Low};
 ghost use Rattle.recovery.specs.Recovery as Recovery;
-ghost use Rattle.action.specs.Applied.{with, agreeing, sensibleIn, trackIn, correctedAt, Builds};
+ghost use Rattle.action.specs.Applied.{with, Lent, Acts, agreeing, sensibleIn, trackIn, correctedAt, Builds, Concludes, Agrees, Retraces};
 
 // Which restart was built.
 pub enum Kind {
@@ -183,4 +185,192 @@ fn build(
         return Recovered::Restart(Kind::FiveA);
     }
     Recovered::Restart(Kind::Five)
+}
+
+// What follows where the data chain ended at the CCW c at l, and the CSW agrees.
+fn conclude(
+    chain: &[u8],
+    storage: &mut [u8],
+    program: &mut [u8],
+    arguments: &mut [u8],
+    sense: &[u8],
+    csw: Csw,
+    mask: FileMask,
+    x: Extent,
+    spots: Spots,
+    l: Location,
+    c: Ccw,
+    wrong: bool,
+) -> Recovered
+    requires { ⌜ Lent (now chain) (now sense) (now program) (now arguments) ⌝ }
+    requires { ⌜ Inside (now chain) [] l ⌝ }
+    ensures { λ r. ⌜ Concludes (now (chain .entry)) (now (sense .entry)) csw mask x spots l c wrong (now (storage .entry)) (now (program .entry)) (now (arguments .entry)) (with r (now (storage .exit)) (now (program .exit)) (now (arguments .exit))) ⌝ }
+{
+    if fetch_mode(mask) {
+        correct(storage, sense, spots);
+        return Recovered::CorrectedOnly;
+    }
+    if wrong {
+        correct(storage, sense, spots);
+        return Recovered::Finished(less_unit_check(csw));
+    }
+    if !c.chains_command() {
+        correct(storage, sense, spots);
+        return Recovered::Finished(less_unit_check(csw));
+    }
+    match channel::resolve(
+        chain,
+        &chain[..0],
+        l,
+        transfer::behind(chain, &chain[..0], l),
+    ) {
+        Fetched::Broken(_) => Recovered::Refused(Question::Agreement),
+        Fetched::Got(to, d) => match to {
+            Location::Restart(_) => Recovered::Refused(Question::Agreement),
+            Location::Chain(a) => {
+                build(storage, program, arguments, sense, mask, x, spots, a, d)
+            }
+        },
+    }
+}
+
+// The same before the CSW was looked at.
+fn agreed(
+    chain: &[u8],
+    storage: &mut [u8],
+    program: &mut [u8],
+    arguments: &mut [u8],
+    sense: &[u8],
+    csw: Csw,
+    mask: FileMask,
+    x: Extent,
+    spots: Spots,
+    l: Location,
+    c: Ccw,
+    left: usize,
+    over: bool,
+) -> Recovered
+    requires { ⌜ Lent (now chain) (now sense) (now program) (now arguments) ⌝ }
+    requires { ⌜ Inside (now chain) [] l ⌝ }
+    ensures { λ r. ⌜ Agrees (now (chain .entry)) (now (sense .entry)) csw mask x spots l c left over (now (storage .entry)) (now (program .entry)) (now (arguments .entry)) (with r (now (storage .exit)) (now (program .exit)) (now (arguments .exit))) ⌝ }
+{
+    let wrong = c.incorrect_length(left, over);
+    if !agrees(csw, l, left, wrong) {
+        return Recovered::Refused(Question::Agreement);
+    }
+    conclude(
+        chain,
+        storage,
+        program,
+        arguments,
+        sense,
+        csw,
+        mask,
+        x,
+        spots,
+        l,
+        c,
+        wrong,
+    )
+}
+
+// The read that begins with the CCW c at an address of the chain, gone over again.
+fn retraced(
+    chain: &[u8],
+    storage: &mut [u8],
+    program: &mut [u8],
+    arguments: &mut [u8],
+    sense: &[u8],
+    csw: Csw,
+    first: usize,
+    mask: FileMask,
+    x: Extent,
+    c: Ccw,
+) -> Recovered
+    requires { ⌜ Lent (now chain) (now sense) (now program) (now arguments) ⌝ }
+    requires { ⌜ Inside (now chain) [] (Chain first) ⌝ }
+    requires { ⌜ InBytes c ⌝ }
+    requires { ⌜ sensibleIn (now sense) ≡ true ⌝ }
+    ensures { λ r. ⌜ Retraces (now (chain .entry)) (now (sense .entry)) csw first mask x c (now (storage .entry)) (now (program .entry)) (now (arguments .entry)) (with r (now (storage .exit)) (now (program .exit)) (now (arguments .exit))) ⌝ }
+{
+    let size = storage.len();
+    if !c.readable(size) {
+        return Recovered::Refused(Question::Agreement);
+    }
+    let restart = FromFront(base::be24(sense, 15));
+    let error = FromEnd(base::be16(sense, 18));
+    let k = error.from_front(restart).0;
+    match retrace::retrace(
+        chain,
+        &chain[..0],
+        size,
+        Location::Chain(first),
+        c,
+        restart.0,
+        k,
+    ) {
+        Traced::Checked => Recovered::Refused(Question::Agreement),
+        Traced::Ended {
+            at,
+            ccw,
+            left,
+            over,
+            spots,
+        } => agreed(
+            chain,
+            storage,
+            program,
+            arguments,
+            sense,
+            csw,
+            mask,
+            x,
+            spots,
+            at,
+            ccw,
+            left,
+            over,
+        ),
+    }
+}
+
+// Action 5, for the sense bytes, the CSW, the address of the read's first CCW and the mask of a report.
+pub fn five(
+    chain: &[u8],
+    storage: &mut [u8],
+    program: &mut [u8],
+    arguments: &mut [u8],
+    sense: &[u8],
+    csw: Csw,
+    first: usize,
+    mask: FileMask,
+    x: Extent,
+) -> Recovered
+    requires { ⌜ Lent (now chain) (now sense) (now program) (now arguments) ⌝ }
+    ensures { λ r. ⌜ Acts Recovery.actionFive (now (chain .entry)) (now (sense .entry)) csw first mask x (now (storage .entry)) (now (program .entry)) (now (arguments .entry)) (with r (now (storage .exit)) (now (program .exit)) (now (arguments .exit))) ⌝ }
+{
+    if sense[7] != 0x53 {
+        return Recovered::Refused(Question::Format);
+    }
+    let Slot::Holds(c) = channel::fetch(chain, &chain[..0], Location::Chain(first)) else {
+        return Recovered::Refused(Question::Agreement);
+    };
+    if !reads_data(drive::command_of(c.command)) {
+        return Recovered::Refused(Question::Agreement);
+    }
+    if !sensible(sense) {
+        return Recovered::Refused(Question::Agreement);
+    }
+    retraced(
+        chain,
+        storage,
+        program,
+        arguments,
+        sense,
+        csw,
+        first,
+        mask,
+        x,
+        c,
+    )
 }

@@ -4,8 +4,8 @@
 --   placed-all     no byte is left
 use Prim.Native.Nat.{ℕ, suc, _+_, _<_, _≤_}
 use native.Mathlib.Omega.{arith}
-use mathlib.Core.Path.{_≡_, refl, ap, sym, _∙_}
-use mathlib.Core.List.{List, [], _∷_, _++_, append-nil}
+use mathlib.Core.Path.{_≡_}
+use mathlib.Core.List.{List, _++_, append-nil}
 use lib.ListN.{length, getD, set, drop, replicate, drop-of-length-le}
 use lib.Seq.{drop-length, drop-cons}
 use Rattle.rebuild.specs.Placed.{placed}
@@ -16,7 +16,7 @@ cleared s i e = rw (e, drop-length, append-nil)
 module _ (s : List ℕ) (at : ℕ) (bytes : List ℕ) (i : ℕ) where
   pub placed-more : i < length bytes → placed (set s (at + i) (getD bytes i 0)) (at + (i + 1)) (drop (i + 1) bytes) ≡ placed s (at + i) (drop i bytes)
   unfolding placed
-  placed-more h = 
+  placed-more h =
       let n : at + (i + 1) ≡ at + i + 1 = omega arith in
       let m : suc i ≡ i + 1 = omega arith in
       rw (drop-cons bytes i 0 h, n, m)

@@ -31,14 +31,7 @@ fn place(area: &mut [u8], at: usize, bytes: &[u8])
     }
 }
 
-fn put_ccw(
-    program: &mut [u8],
-    at: usize,
-    command: u8,
-    address: usize,
-    flags: u8,
-    count: usize,
-)
+fn put_ccw(program: &mut [u8], at: usize, command: u8, address: usize, flags: u8, count: usize)
     requires { ⌜ at + 8 ≤ length (now program) ⌝ }
     requires { ⌜ address < 16777216 ⌝ }
     requires { ⌜ count < 65536 ⌝ }

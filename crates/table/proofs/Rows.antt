@@ -1,15 +1,15 @@
 -- The first row that fits, found in order.
 --   other-zero, other-one, by-two   whether a row fits, from the tests of its three bytes
+--   rowAt                           the rows of the code, from those of the definition
 --   hit, miss, passed               one turn of the walk, and its end
 --   chooses                         three bytes stand for all sense bytes that begin with them
 use Prim.Native.Nat.{ℕ, zero, suc, _+_, _<_, _≤_}
 use native.Mathlib.Numerals.{add-one}
-use native.Mathlib.Omega.{arith}
-use mathlib.Core.Path.{_≡_, refl, ap, sym, _∙_}
-use mathlib.Core.Bool.{Bool, true, false, _&&_}
-use mathlib.Core.Option.{Option, none, some}
+use mathlib.Core.Path.{_≡_, refl, _∙_}
+use mathlib.Core.Bool.{true, false}
+use mathlib.Core.Option.{none, some}
 use mathlib.Core.List.{List, [], _∷_, map}
-use lib.ListN.{length, getD, drop, drop-of-length-le}
+use lib.ListN.{getD, drop, drop-of-length-le}
 use lib.Seq.{drop-cons}
 use Rattle.base.specs.Choice.{pick}
 use Rattle.recovery.specs.Table.{Row, row, rows, covers, fits, actionFor}

@@ -57,7 +57,7 @@ returns-2 c =
     let start = clearing .before .before .before in
     let set = told .enum-told2 .given .1 in (
       begun-set (start .args .program .now) (start .pre) (clearing .clear .ensures) (first .put-ccw .ensures) set (second .put-ccw3 .ensures)
-      (last .put-ccw4 .ensures),
+          (last .put-ccw4 .ensures),
       (rw set, omega arith),
     )
 

@@ -1,9 +1,9 @@
 -- `rebuild::clear` meets its contract. Invariant: the bytes passed are 0, the rest is as it was. Measure: the bytes left. Assumes nothing.
 use Prim.Native.Nat.{_≤_, _-_}
-use mathlib.Core.Path.{_≡_, refl, sym, _∙_}
+use mathlib.Core.Path.{_≡_, _∙_}
 use mathlib.Core.List.{_++_}
 use lib.ListN.{length, drop, replicate, length-set}
-use borrow.Author.Fill.{fill-none, fill-more}
+use borrow.Author.Fill.{fill-more}
 use Rattle.rebuild.proofs.Placing.{cleared}
 use borrow.Author.Needs.{needs}
 use native.Mathlib.Omega.{arith}

@@ -6,7 +6,6 @@ use lib.ListN.{length, drop, length-set}
 use Rattle.rebuild.specs.Placed.{placed}
 use Rattle.rebuild.proofs.Placing.{placed-more, placed-all}
 use borrow.Author.Needs.{needs}
-use native.Mathlib.Omega.{arith}
 use Rattle.rebuild.proofs.place.Statement.{statement}
 use Rattle.rebuild.proofs.place.Tie as tie
 

@@ -1,3 +1,4 @@
+-- `table::action_for` meets its contract. Invariant: the rows left choose what the whole table does. Measure: the rows left. Assumes nothing.
 use Prim.Native.Nat.{_-_}
 use mathlib.Core.Path.{_≡_, refl, sym, _∙_}
 use mathlib.Core.List.{[], _∷_}
@@ -6,13 +7,10 @@ use Rattle.recovery.specs.Table as Table
 use Rattle.recovery.specs.Table.{actionFor}
 use Rattle.table.specs.declared.Chosen.the-variants.{Action, NoRow}
 use Rattle.table.proofs.Rows.{rowAt, hit, miss, passed, chooses}
-use borrow.Author.Needs.{needs}
 use native.Mathlib.Omega.{arith}
+use borrow.Author.Needs.{needs}
 use Rattle.table.proofs.action_for.Statement.{statement}
 use Rattle.table.proofs.action_for.Tie as tie
-use Rattle.table.proofs.action_for.Reads as reads
-use Rattle.table.proofs.action_for.Lts as lts
-use Rattle.table.proofs.fits.Reads as fits-reads
 
 abbrev Inv-loop : tie.InvT-loop
 Inv-loop s0 s1 s2 rows i₀ i = actionFor (drop i Table.rows) (s0 ∷ s1 ∷ s2 ∷ []) ≡ actionFor Table.rows (s0 ∷ s1 ∷ s2 ∷ [])
@@ -37,7 +35,7 @@ unfolding rowAt Table.rows
 returns c =
     let at-loop = c .before .before .before .before in
     chooses _ _ _ (Action (rowAt (at-loop .loop .i) .3))
-    (hit (at-loop .loop .i) _ (c .before .before .before .loop-test .taken) (sym (c .if1 .taken) ∙ c .before .fits2 .ensures) ∙ at-loop .loop .inv)
+    (hit (at-loop .loop .i) _ (omega (arith, c .before .before .before .loop-test .taken)) (sym (c .if1 .taken) ∙ c .before .fits2 .ensures) ∙ at-loop .loop .inv)
 
 add-i : tie.Need-add-i Inv-loop μ-loop
 add-i c = search needs
@@ -49,7 +47,7 @@ loop-again : tie.Need-loop-again Inv-loop μ-loop
 unfolding rowAt Table.rows
 loop-again c =
     let at-loop = c .before .before .before .before in
-    miss (at-loop .loop .i) _ (c .before .before .before .loop-test .taken) (sym (c .if1 .left) ∙ c .before .fits2 .ensures) ∙ at-loop .loop .inv
+    miss (at-loop .loop .i) _ (omega (arith, c .before .before .before .loop-test .taken)) (sym (c .if1 .left) ∙ c .before .fits2 .ensures) ∙ at-loop .loop .inv
 
 returns-2 : tie.Need-returns-2 Inv-loop μ-loop
 returns-2 c = chooses _ _ _ NoRow (passed _ _ (c .loop-test .left) ∙ c .before .loop .inv)

@@ -1,0 +1,4 @@
+pub mod Places
+pub mod Behind
+pub mod Front
+pub mod Fixed

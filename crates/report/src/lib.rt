@@ -1,0 +1,188 @@
+// The report of a unit check: its tagged fields, and question 4.
+use channel::Csw;
+use drive::FileMask;
+use fields::Tagged;
+ghost use mathlib.Core.Path.{_≡_};
+ghost use Prim.Native.Nat.{_+_, _<_, _≤_};
+ghost use lib.ListN.{length};
+ghost use Rattle.base.specs.Bytes.{part};
+ghost use Rattle.drive.specs.declared.FileMask.the-variants.{Unset};
+ghost use Rattle.drive.specs.Step;
+ghost use Rattle.recovery.specs.Report.{reportFrom, cswFrom, withMask, withSeek, withTries};
+ghost use Rattle.report.specs.declared.Seek.the-variants.{Absent};
+ghost use Rattle.report.specs.Reported.{wantedAt, soFar, reportedOf, Reads, Bounds, Bounded};
+
+// The place of the user's seek argument, six bytes.
+pub enum Seek {
+    At(usize),
+    Absent,
+}
+
+// What a report says besides its sense bytes, which stand at 3 to 26: the CSW, the address of the read's first CCW, the file
+// mask, the user's seek argument, and the tries made.
+pub struct Report {
+    pub csw: Csw,
+    pub first: usize,
+    pub mask: FileMask,
+    pub seek: Seek,
+    pub tries: usize,
+}
+
+pub enum Reported {
+    Well(Report),
+    Ill,
+}
+
+// A field of one tag and length: the place of its contents, and the place behind them.
+enum Wanted {
+    Found { start: usize, next: usize },
+    Missing,
+}
+
+fn wanted_at(report: &[u8], at: usize, tag: u8, n: usize) -> Wanted
+    ensures { λ r. ⌜ r ≡ wantedAt (now (report .entry)) at tag n ⌝ }
+{
+    let Tagged::Field {
+        tag: t,
+        start,
+        next,
+    } = fields::field_at(report, at)
+    else {
+        return Wanted::Missing;
+    };
+    if t != tag {
+        return Wanted::Missing;
+    }
+    if next - start != n {
+        return Wanted::Missing;
+    }
+    Wanted::Found {
+        start: start,
+        next: next,
+    }
+}
+
+// Whether a byte may be a file mask: bits 2, 5 and 6 are off.
+fn settable(m: u8) -> bool
+    ensures { λ r. ⌜ r ≡ Step.settable m ⌝ }
+{
+    if base::bit(m, 2) {
+        return false;
+    }
+    if base::bit(m, 5) {
+        return false;
+    }
+    !base::bit(m, 6)
+}
+
+// The tries made, if a field says so, and nothing behind it.
+fn with_tries(
+    report: &[u8],
+    at: usize,
+    csw: Csw,
+    first: usize,
+    mask: FileMask,
+    seek: Seek,
+) -> Reported
+    requires { ⌜ Bounds (now report) (soFar csw first mask seek) ⌝ }
+    ensures { λ out. ⌜ Reads withTries (now (report .entry)) at (soFar csw first mask seek) out ⌝ }
+    ensures { λ out. ⌜ Bounded (now (report .entry)) out ⌝ }
+{
+    if report.len() <= at {
+        return Reported::Well(Report {
+            csw: csw,
+            first: first,
+            mask: mask,
+            seek: seek,
+            tries: 0,
+        });
+    }
+    let Wanted::Found { start, next } = wanted_at(report, at, 0x15, 1) else {
+        return Reported::Ill;
+    };
+    if next < report.len() {
+        return Reported::Ill;
+    }
+    Reported::Well(Report {
+        csw: csw,
+        first: first,
+        mask: mask,
+        seek: seek,
+        tries: base::byte(report, start),
+    })
+}
+
+// The user's seek argument, if there is one, and the fields behind it.
+fn with_seek(report: &[u8], at: usize, csw: Csw, first: usize, mask: FileMask) -> Reported
+    requires { ⌜ Bounds (now report) (soFar csw first mask Absent) ⌝ }
+    ensures { λ out. ⌜ Reads withSeek (now (report .entry)) at (soFar csw first mask Absent) out ⌝ }
+    ensures { λ out. ⌜ Bounded (now (report .entry)) out ⌝ }
+{
+    let Wanted::Found { start, next } = wanted_at(report, at, 0x14, 6) else {
+        return with_tries(report, at, csw, first, mask, Seek::Absent);
+    };
+    with_tries(report, next, csw, first, mask, Seek::At(start))
+}
+
+// The file mask, if one was set, and the fields behind it.
+fn with_mask(report: &[u8], at: usize, csw: Csw, first: usize) -> Reported
+    requires { ⌜ Bounds (now report) (soFar csw first Unset Absent) ⌝ }
+    ensures { λ out. ⌜ Reads withMask (now (report .entry)) at (soFar csw first Unset Absent) out ⌝ }
+    ensures { λ out. ⌜ Bounded (now (report .entry)) out ⌝ }
+{
+    let Wanted::Found { start, next } = wanted_at(report, at, 0x13, 1) else {
+        return with_seek(report, at, csw, first, FileMask::Unset);
+    };
+    let m = report[start];
+    if !settable(m) {
+        return Reported::Ill;
+    }
+    with_seek(report, next, csw, first, FileMask::Set(m))
+}
+
+// The CSW in eight bytes of the report.
+fn csw_in(report: &[u8], at: usize) -> Csw
+    requires { ⌜ at + 8 ≤ length (now report) ⌝ }
+    ensures { λ r. ⌜ r ≡ cswFrom (part (now (report .entry)) at (at + 8)) ⌝ }
+    ensures { λ r. ⌜ r .address < 16777216 ⌝ }
+    ensures { λ r. ⌜ r .count < 65536 ⌝ }
+{
+    Csw {
+        address: base::be24(report, at + 1),
+        unit: report[at + 4],
+        channel: report[at + 5],
+        count: base::be16(report, at + 6),
+    }
+}
+
+// The report that bytes are, or that they are none.
+pub fn read(report: &[u8]) -> Reported
+    ensures { λ r. ⌜ reportedOf (now (report .entry)) r ≡ reportFrom (now (report .entry)) ⌝ }
+    ensures { λ r. ⌜ Bounded (now (report .entry)) r ⌝ }
+{
+    let Wanted::Found {
+        start: _,
+        next: second,
+    } = wanted_at(report, 0, 0x10, 24)
+    else {
+        return Reported::Ill;
+    };
+    let Wanted::Found {
+        start: csw,
+        next: third,
+    } = wanted_at(report, second, 0x11, 8)
+    else {
+        return Reported::Ill;
+    };
+    let Wanted::Found {
+        start: first,
+        next: rest,
+    } = wanted_at(report, third, 0x12, 2)
+    else {
+        return Reported::Ill;
+    };
+    if report[csw] != 0 {
+        return Reported::Ill;
+    }
+    with_mask(report, rest, csw_in(report, csw), base::be16(report, first))
+}
