@@ -27,7 +27,7 @@ fn low(n: usize) -> u8
 
 // ---- the parts of an answer, each at the front of what is lent
 
-fn put_csw(to: &mut [u8], w: Csw)
+pub fn put_csw(to: &mut [u8], w: Csw)
     requires { ⌜ 8 ≤ length (now to) ⌝ }
     ensures { λ _. ⌜ now (to .exit) ≡ lowered (cswBytes w) ++ drop 8 (now (to .entry)) ⌝ }
 {

@@ -1,0 +1,109 @@
+-- Recovery as a call, from the tests that the code makes.
+--   chain-not .. extent-left      question 1
+--   areas-say                     what it says of the areas
+--   wrong-areas .. answers        the questions in order
+use Prim.Native.Nat.{ℕ, _≤_}
+use native.Mathlib.Omega.{arith}
+use mathlib.Core.Path.{_≡_, refl, ap, sym, _∙_}
+use mathlib.Core.Bool.{Bool, true, false, _&&_}
+use mathlib.Core.Option.{Option, none, some}
+use mathlib.Core.List.{List}
+use lib.Dec.{eqb, leb}
+use lib.ListN.{length}
+use borrow.Author.Tests.{eqb-true, leb-true}
+use Rattle.base.specs.Choice.{pick, opt}
+use Rattle.base.specs.Bytes.{part}
+use Rattle.base.proofs.Choice.{pick-true, pick-false, and-left, and-right}
+use Rattle.questions.specs.declared.Question.the-variants as Question
+use Rattle.questions.specs.Areas.{chainFits, storageFits, programFits, restartArgumentsFit, restartAreas}
+use Rattle.address.specs.declared.Extent.{Extent}
+use Rattle.address.specs.Order.{lastCylinder}
+use Rattle.address.specs.Within.{extentOf, soundExtent}
+use Rattle.recovery.specs.Table.{rows}
+use Rattle.recovery.specs.Recovery as Recovery
+use Rattle.recovery.specs.Report.{reportFrom}
+use Rattle.report.specs.declared.Report as Code
+use Rattle.report.specs.declared.Reported.{Reported}
+use Rattle.report.specs.declared.Reported.the-variants.{Well, Ill}
+use Rattle.report.specs.Reported.{reportOf, reportedOf, seekOf}
+use Rattle.action.specs.declared.Recovered.the-variants.{Refused}
+use Rattle.action.specs.Applied.{Applied, with, applied, givenOf}
+use Rattle.home.specs.declared.User.{User}
+use Rattle.home.specs.User.{userIn, userOf}
+use Rattle.recover.specs.Recover.{refusal, recoverAreas, recoverCall, Recovers}
+
+-- ---- question 1
+
+module _ (chain storage program arguments extent : ℕ) where
+  pub chain-not : chainFits chain ≡ false → false ≡ recoverAreas chain storage program arguments extent
+  unfolding recoverAreas
+  chain-not e = rw e
+
+  module _ (e : chainFits chain ≡ true) where
+    pub storage-not : storageFits storage ≡ false → false ≡ recoverAreas chain storage program arguments extent
+    unfolding recoverAreas
+    storage-not f = rw (e, f)
+
+    module _ (f : storageFits storage ≡ true) where
+      pub restart-not : restartAreas program arguments ≡ false → false ≡ recoverAreas chain storage program arguments extent
+      unfolding recoverAreas
+      restart-not g = rw (e, f, g)
+
+      pub extent-left : restartAreas program arguments ≡ true → eqb extent 8 ≡ recoverAreas chain storage program arguments extent
+      unfolding recoverAreas
+      extent-left g = rw (e, f, g)
+
+  pub record Fitting : Type 0 where
+    pub chain-short : chain ≤ 2048
+    pub program-full : program ≡ 64
+    pub arguments-full : arguments ≡ 16
+    pub extent-full : extent ≡ 8
+
+  pub areas-say : recoverAreas chain storage program arguments extent ≡ true → Fitting
+  unfolding recoverAreas restartAreas chainFits
+  areas-say h =
+      let three = and-left (chainFits chain && storageFits storage && restartAreas program arguments) (eqb extent 8) h in
+      let restart = and-right (chainFits chain && storageFits storage) (restartAreas program arguments) three in
+      let first = and-left (chainFits chain) (storageFits storage) (and-left (chainFits chain && storageFits storage) (restartAreas program arguments) three) in
+      record {
+        chain-short = leb-true _ _ (and-right (leb 8 chain) (leb chain 2048) (and-left (leb 8 chain && leb chain 2048) _ first));
+        program-full = eqb-true _ _ (and-left (programFits program) (restartArgumentsFit arguments) restart);
+        arguments-full = eqb-true _ _ (and-right (programFits program) (restartArgumentsFit arguments) restart);
+        extent-full = eqb-true _ _ (and-right (chainFits chain && storageFits storage && restartAreas program arguments) (eqb extent 8) h);
+      }
+
+-- ---- the questions in order
+
+module _ (chain report extent st p a : List ℕ) where
+  pub wrong-areas : recoverAreas (length chain) (length st) (length p) (length a) (length extent) ≡ false
+      → with (Refused Question.Areas) st p a ≡ recoverCall chain report extent st p a
+  unfolding recoverCall refusal
+  wrong-areas h = sym (pick-false _ _ h)
+
+  module _ (h : recoverAreas (length chain) (length st) (length p) (length a) (length extent) ≡ true) where
+    pub ill-formed : (r : Reported) → reportedOf report r ≡ reportFrom report → r ≡ Ill → with (Refused Question.Report) st p a ≡ recoverCall chain report extent st p a
+    unfolding recoverCall refusal opt
+    ill-formed r e f = let ill : none ≡ reportFrom report = rw f at e in sym (pick-true _ _ h ∙ rw (← ill))
+
+    module _ (r : Reported) (w : Code.Report) (e : reportedOf report r ≡ reportFrom report) (f : r ≡ Well w) where
+      reported : some (reportOf report w) ≡ reportFrom report
+      reported = rw f at e
+
+      after-report : (out : Applied)
+          → out ≡ pick (soundExtent lastCylinder (extentOf extent)) (applied (Recovery.recover (givenOf rows chain (extentOf extent)) (reportOf report w) st) st p a) (refusal Question.Extent st p a)
+          → out ≡ recoverCall chain report extent st p a
+      unfolding recoverCall opt
+      after-report out q = q ∙ sym (pick-true _ _ h ∙ rw (← reported))
+
+      module _ (x : Extent) (i : x ≡ extentOf extent) where
+        pub off-pack : soundExtent lastCylinder x ≡ false → with (Refused Question.Extent) st p a ≡ recoverCall chain report extent st p a
+        unfolding refusal
+        off-pack g = after-report _ (sym (pick-false _ _ (ap (soundExtent lastCylinder) (sym i) ∙ g)))
+
+        pub answers : (user : User) (out : Applied) → soundExtent lastCylinder x ≡ true → userOf user ≡ userIn (seekOf report (w .seek))
+            → Recovers chain (part report 3 27) (w .csw) (w .first) (w .mask) (w .tries) x user st p a out → out ≡ recoverCall chain report extent st p a
+        answers user out g u k =
+            after-report out
+            (k (seekOf report (w .seek)) (sym u)
+            ∙ ap (λ q. applied (Recovery.recover (givenOf rows chain q) (reportOf report w) st) st p a) i
+            ∙ sym (pick-true _ _ (ap (soundExtent lastCylinder) (sym i) ∙ g)))

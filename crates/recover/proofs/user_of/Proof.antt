@@ -1,0 +1,26 @@
+-- `recover::user_of` meets its contract: by whether the report has a seek argument. Assumes nothing.
+use mathlib.Core.Path.{_≡_, refl, ap, sym, _∙_}
+use Rattle.base.specs.Choice.{opt}
+use Rattle.home.specs.User.{userIn}
+use borrow.Author.Needs.{needs}
+use Rattle.recover.proofs.user_of.Statement.{statement}
+use Rattle.recover.proofs.user_of.Tie as tie
+
+enum-known-seek : tie.Need-enum-known-seek
+enum-known-seek c = search needs
+
+user-track-requires : tie.Need-user-track-requires
+user-track-requires c κs = rw (c .before .seek .given .1) at (c .before .before .before .before .pre)
+
+enum-told : tie.Need-enum-told
+enum-told c = search needs
+
+returns : tie.Need-returns
+returns c = (rw (c .before .before .seek .given .1) (c .user-track .ensures .0), c .user-track .ensures .1)
+
+returns-2 : tie.Need-returns-2
+unfolding userIn opt
+returns-2 c = (rw (c .enum-told .given .1), tt)
+
+pub user-of-spec : {M : Type 1} → statement M
+user-of-spec = tie.close (tie.spec enum-known-seek user-track-requires enum-told returns returns-2)
