@@ -10,7 +10,9 @@ ghost use Rattle.image.specs.Image.{imageAnswer};
 ghost use Rattle.faults.specs.Faults.{faultsAnswer};
 ghost use Rattle.trial.specs.Trial.{runCall, restartCall, TrialLow};
 ghost use Rattle.giruve.specs.Areas.{runAnswer, restartAnswer};
+ghost use Rattle.recover.specs.Recover.{recoverCall};
 ghost use Rattle.giruve.specs.Run.{HandsOut, handed};
+ghost use Rattle.giruve.specs.Recover.{mended};
 
 // Questions 1 and 2: 0, 1 or 2.
 #[no_mangle]
@@ -131,4 +133,28 @@ pub extern "C" fn giruve_run_restart(
     }
     let t = trial::run_restart(chain, arguments, program, restarts, storage, image, faults);
     hand_out(answer, t)
+}
+
+// Recovery from a report. An answer area is one of 10 bytes; returned is 0, or the refusing question's number.
+#[no_mangle]
+pub extern "C" fn giruve_recover(
+    chain: &[u8],
+    report: &[u8],
+    extent: &[u8],
+    storage: &mut [u8],
+    program: &mut [u8],
+    arguments: &mut [u8],
+    answer: &mut [u8],
+) -> u8
+    ensures number { λ r. ⌜ r ≡ (mended (now (answer .entry)) (now (storage .entry)) (now (program .entry)) (now (arguments .entry)) (recoverCall (now (chain .entry)) (now (report .entry)) (now (extent .entry)) (now (storage .entry)) (now (program .entry)) (now (arguments .entry)))) .number ⌝ }
+    ensures answer { λ _. ⌜ now (answer .exit) ≡ (mended (now (answer .entry)) (now (storage .entry)) (now (program .entry)) (now (arguments .entry)) (recoverCall (now (chain .entry)) (now (report .entry)) (now (extent .entry)) (now (storage .entry)) (now (program .entry)) (now (arguments .entry)))) .answer ⌝ }
+    ensures storage { λ _. ⌜ now (storage .exit) ≡ (mended (now (answer .entry)) (now (storage .entry)) (now (program .entry)) (now (arguments .entry)) (recoverCall (now (chain .entry)) (now (report .entry)) (now (extent .entry)) (now (storage .entry)) (now (program .entry)) (now (arguments .entry)))) .storage ⌝ }
+    ensures program { λ _. ⌜ now (program .exit) ≡ (mended (now (answer .entry)) (now (storage .entry)) (now (program .entry)) (now (arguments .entry)) (recoverCall (now (chain .entry)) (now (report .entry)) (now (extent .entry)) (now (storage .entry)) (now (program .entry)) (now (arguments .entry)))) .program ⌝ }
+    ensures arguments { λ _. ⌜ now (arguments .exit) ≡ (mended (now (answer .entry)) (now (storage .entry)) (now (program .entry)) (now (arguments .entry)) (recoverCall (now (chain .entry)) (now (report .entry)) (now (extent .entry)) (now (storage .entry)) (now (program .entry)) (now (arguments .entry)))) .arguments ⌝ }
+{
+    if answer.len() != 10 {
+        return questions::number(Question::Areas);
+    }
+    let r = recover::recover(chain, report, extent, storage, program, arguments);
+    reply::put(answer, r)
 }

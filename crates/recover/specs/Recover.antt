@@ -1,12 +1,11 @@
 -- Recovery as a call: the questions that it asks first, and the areas behind its answer.
-use Prim.Native.Nat.{ℕ, _+_, _<_, _≤_}
+use Prim.Native.Nat.{ℕ, _<_}
 use mathlib.Core.Path.{_≡_}
 use mathlib.Core.Bool.{Bool, _&&_}
-use mathlib.Core.Option.{Option, some}
+use mathlib.Core.Option.{Option}
 use mathlib.Core.List.{List}
 use lib.Dec.{eqb, ltb}
 use lib.ListN.{length}
-use Rattle.base.specs.Bytes.{part}
 use Rattle.base.specs.Choice.{pick, opt}
 use Rattle.questions.specs.declared.Question.{Question}
 use Rattle.questions.specs.declared.Question.the-variants as Question
@@ -67,12 +66,6 @@ Recovers chain sense csw first mask tries x user st p a out =
 unfoldable pub triedOf : ℕ → ℕ → Recovered
 triedOf tries limit = pick (ltb tries limit) Repeat ActionOne
 
--- the user's track in a report, by the place of its seek argument
-abbrev pub UserAt : List ℕ → ℕ → User → Type 0
-UserAt report at r = userOf r ≡ userIn (some (part report at (at + 6)))
-
-abbrev pub SeekIn : List ℕ → ℕ → Type 0
-SeekIn report at = at + 6 ≤ length report
-
+-- the user's track in a report
 abbrev pub UserOf : List ℕ → Seek → User → Type 0
 UserOf report seek r = userOf r ≡ userIn (seekOf report seek)

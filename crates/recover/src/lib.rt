@@ -9,55 +9,10 @@ use report::Reported;
 use report::Seek;
 use table::Chosen;
 ghost use mathlib.Core.Path.{_≡_};
-ghost use lib.ListN.{length};
-ghost use Rattle.recovery.specs.Recovery as Recovery;
 ghost use Rattle.action.specs.Applied.{with};
-ghost use Rattle.home.specs.User.{Ready, UserOnPack, ActsUser};
-ghost use Rattle.recover.specs.Recover.{recoverCall, Told, ActsBy, Recovers, triedOf, recoverAreas, UserAt, SeekIn, UserOf};
+ghost use Rattle.home.specs.User.{UserOnPack};
+ghost use Rattle.recover.specs.Recover.{recoverCall, Told, ActsBy, Recovers, triedOf, recoverAreas, UserOf};
 ghost use Rattle.report.specs.Reported.{SeekInside};
-
-// STUB
-fn eight(
-    chain: &[u8],
-    program: &mut [u8],
-    arguments: &mut [u8],
-    csw: Csw,
-    mask: FileMask,
-    x: Extent,
-    user: User,
-) -> Recovered
-    requires { ⌜ Ready (now chain) (now program) (now arguments) csw ⌝ }
-    requires { ⌜ UserOnPack user ⌝ }
-    ensures { λ r. ⌜ ActsUser Recovery.actionEight (now (chain .entry)) csw mask x user (now (program .entry)) (now (arguments .entry)) r (now (program .exit)) (now (arguments .exit)) ⌝ }
-{
-    Recovered::ActionOne
-}
-
-// STUB
-fn ten(
-    chain: &[u8],
-    program: &mut [u8],
-    arguments: &mut [u8],
-    csw: Csw,
-    mask: FileMask,
-    x: Extent,
-    user: User,
-) -> Recovered
-    requires { ⌜ Ready (now chain) (now program) (now arguments) csw ⌝ }
-    requires { ⌜ UserOnPack user ⌝ }
-    ensures { λ r. ⌜ ActsUser Recovery.actionTen (now (chain .entry)) csw mask x user (now (program .entry)) (now (arguments .entry)) r (now (program .exit)) (now (arguments .exit)) ⌝ }
-{
-    Recovered::ActionOne
-}
-
-// STUB
-fn user_track(report: &[u8], at: usize) -> User
-    requires { ⌜ SeekIn (now report) at ⌝ }
-    ensures { λ r. ⌜ UserAt (now (report .entry)) at r ⌝ }
-    ensures { λ r. ⌜ UserOnPack r ⌝ }
-{
-    User::Missing
-}
 
 // Actions 3 and 4: the chain is run again as long as there were fewer tries than the limit.
 fn tried(tries: usize, limit: usize) -> Recovered
@@ -101,14 +56,22 @@ fn act(
     }
     if k == 5 {
         return action::five(
-            chain, storage, program, arguments, sense, csw, first, mask, x,
+            chain,
+            storage,
+            program,
+            arguments,
+            sense,
+            csw,
+            first,
+            mask,
+            x,
         );
     }
     if k == 8 {
-        return eight(chain, program, arguments, csw, mask, x, user);
+        return home::eight(chain, program, arguments, csw, mask, x, user);
     }
     if k == 10 {
-        return ten(chain, program, arguments, csw, mask, x, user);
+        return home::ten(chain, program, arguments, csw, mask, x, user);
     }
     Recovered::Refused(Question::Action)
 }
@@ -133,7 +96,18 @@ pub fn recover_from(
     match table::action_for(sense[0], sense[1], sense[2]) {
         Chosen::NoRow => Recovered::Refused(Question::Row),
         Chosen::Action(k) => act(
-            k, chain, storage, program, arguments, sense, csw, first, mask, tries, x, user,
+            k,
+            chain,
+            storage,
+            program,
+            arguments,
+            sense,
+            csw,
+            first,
+            mask,
+            tries,
+            x,
+            user,
         ),
     }
 }
@@ -145,7 +119,7 @@ fn user_of(report: &[u8], seek: Seek) -> User
     ensures { λ r. ⌜ UserOnPack r ⌝ }
 {
     match seek {
-        Seek::At(a) => user_track(report, a),
+        Seek::At(a) => home::user_track(report, a),
         Seek::Absent => User::Missing,
     }
 }

@@ -1,0 +1,3 @@
+-- What the proofs of home's functions cite.
+pub mod Tracks
+pub mod Restarts
