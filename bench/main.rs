@@ -1,4 +1,5 @@
-//! The proved library against the simulator, in the same process: checking images, running chains.
+//! The proved library against the simulator, in the same process: checking images, running chains,
+//! recovering.
 //!
 //! Prints times and ratios; no time makes it fail.
 
@@ -8,10 +9,12 @@ mod library;
 mod simulator;
 
 mod images;
+mod recoveries;
 mod runs;
 mod times;
 
 fn main() {
     images::print();
     runs::print();
+    recoveries::print();
 }

@@ -17,8 +17,12 @@ fn main() -> ExitCode {
     let directory = std::env::args().nth(1).expect("a directory of cases");
     let directory = Path::new(&directory);
     let passed = [
-        cases::all_pass(directory, "simulator", run_simulator),
-        cases::all_pass(directory, "library", run_library),
+        cases::all_pass(directory, "simulator", |text| {
+            cases::checked(text, run_simulator)
+        }),
+        cases::all_pass(directory, "library", |text| {
+            cases::checked(text, run_library)
+        }),
     ];
     if passed == [true; 2] {
         ExitCode::SUCCESS

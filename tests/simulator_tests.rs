@@ -6,10 +6,12 @@ mod simulator;
 
 #[path = "differential/arena.rs"]
 mod arena;
-#[allow(dead_code)]
 mod cases;
 #[path = "differential/chains/mod.rs"]
 mod chains;
+#[allow(dead_code, unused_imports)]
+#[path = "differential/damage/mod.rs"]
+mod damage;
 #[allow(dead_code)]
 #[path = "differential/generate.rs"]
 mod generate;
@@ -18,3 +20,9 @@ mod generate;
 mod marks;
 #[path = "differential/random.rs"]
 mod random;
+#[allow(dead_code, unused_imports)]
+#[path = "differential/recovery_marks/mod.rs"]
+mod recovery_marks;
+#[allow(dead_code)]
+#[path = "differential/reports/mod.rs"]
+mod reports;

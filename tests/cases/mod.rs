@@ -1,8 +1,14 @@
-//! Runs written by hand: what is lent and what must come out. `reader` says how they are written.
+//! Runs written by hand: what is lent and what must come out. `reader` says how they are written;
+//! `recovery` has recoveries in the same way.
 //!
 //! Nothing here knows what is run; a `Runner` does that.
 
+// Each program that includes this uses a part of it.
+#![allow(dead_code)]
+
 pub mod reader;
+pub mod recovery;
+mod text;
 
 use std::fmt::Debug;
 use std::fs;
@@ -63,20 +69,34 @@ pub fn taken_area(cylinder: u16, head: u16, number: u8, faulted: bool, stored: u
 /// Runs what is lent and leaves it as the run does.
 pub type Runner = fn(&mut Lent) -> Answer;
 
-/// Runs every case of the directory's `.txt` files, prints what comes out otherwise than they say,
-/// and tells whether nothing did.
-pub fn all_pass(directory: &Path, runner: &str, run: Runner) -> bool {
+/// The name of a case, and what came out otherwise than it says, a line each.
+pub type Checked = (String, Vec<String>);
+
+/// Runs every case of a text.
+pub fn checked(text: &str, run: Runner) -> Result<Vec<Checked>, String> {
+    let cases = reader::read(text)?;
+    let checked = |case: Case| (case.name.clone(), case.differences(run));
+    Ok(cases.into_iter().map(checked).collect())
+}
+
+/// Has every case of the directory's `.txt` files checked, prints what comes out otherwise than
+/// they say, and tells whether nothing did.
+pub fn all_pass(
+    directory: &Path,
+    runner: &str,
+    checked: impl Fn(&str) -> Result<Vec<Checked>, String>,
+) -> bool {
     let mut cases = 0;
     let mut failed = 0;
     for file in files(directory) {
         let text = fs::read_to_string(&file).expect("the file can be read");
-        let read = reader::read(&text);
-        for case in read.unwrap_or_else(|error| panic!("{}: {error}", file.display())) {
+        let checked = checked(&text);
+        let checked = checked.unwrap_or_else(|error| panic!("{}: {error}", file.display()));
+        for (name, differences) in checked {
             cases += 1;
-            let differences = case.differences(run);
             if !differences.is_empty() {
                 failed += 1;
-                println!("{runner}: {}, {}", file.display(), case.name);
+                println!("{runner}: {}, {name}", file.display());
             }
             for difference in differences {
                 println!("  {difference}");

@@ -1,10 +1,5 @@
-//! How cases are written, and their reader.
+//! How cases of runs are written, besides what `text` says.
 //!
-//! A statement is a word at the start of a line and its values, which may go on in indented lines
-//! below. `#` begins a comment. Bytes are written in hexadecimal with blanks anywhere between
-//! them; `00*16` is sixteen of them. Other numbers are decimal, CCW addresses hexadecimal.
-//!
-//! - `case`, the name of a case: what stands above the first is lent in every case of the file.
 //! - `chain`, `arguments`, `storage`, `image`, `faults`: bytes lent; none where not said.
 //! - `restart-program`, `restart-arguments`: bytes lent besides; the run is then a restarted one.
 //! - `command-limit`: the chain's, 4096 where not said.
@@ -16,123 +11,26 @@
 //!   bytes went to storage; one statement for each in order, or `none`. Where not said, not
 //!   compared.
 
+use super::text::{self, Statement};
 use super::{Answer, Case, Ending, Lent, Ran};
 
 /// The cases of a text, or what is wrong with it.
 pub fn read(text: &str) -> Result<Vec<Case>, String> {
-    let statements = statements(text)?;
-    let first_case = statements
-        .iter()
-        .position(|statement| statement.word == "case");
-    let (common, own) = statements.split_at(first_case.unwrap_or(statements.len()));
-    let mut shared = Draft::new();
-    for statement in common {
-        shared.take(statement)?;
-    }
-    shared.said.clear();
-    let mut drafts: Vec<Draft> = Vec::new();
-    for statement in own {
-        if statement.word == "case" {
-            let mut draft = shared.clone();
-            draft.name = statement.values.join(" ");
-            drafts.push(draft);
-        } else if let Some(draft) = drafts.last_mut() {
-            draft.take(statement)?;
-        }
-    }
-    drafts.into_iter().map(Draft::case).collect()
-}
-
-struct Statement<'t> {
-    line: usize,
-    word: &'t str,
-    values: Vec<&'t str>,
-}
-
-fn statements(text: &str) -> Result<Vec<Statement<'_>>, String> {
-    let mut statements: Vec<Statement> = Vec::new();
-    for (at, line) in text.lines().enumerate() {
-        let said = line.split('#').next().unwrap_or("");
-        let mut values = said.split_whitespace();
-        if said.starts_with(char::is_whitespace) {
-            match statements.last_mut() {
-                Some(statement) => statement.values.extend(values),
-                None if values.next().is_none() => (),
-                None => return Err(format!("line {}: no statement goes on here", at + 1)),
-            }
-        } else if let Some(word) = values.next() {
-            statements.push(Statement {
-                line: at + 1,
-                word,
-                values: values.collect(),
-            });
-        }
-    }
-    Ok(statements)
-}
-
-impl Statement<'_> {
-    fn error(&self, what: &str) -> String {
-        format!("line {}, {}: {what}", self.line, self.word)
-    }
-
-    fn bytes(&self) -> Result<Vec<u8>, String> {
-        let mut bytes = Vec::new();
-        for value in &self.values {
-            let (digits, times) = value.split_once('*').unwrap_or((value, "1"));
-            let once = hexadecimal(digits);
-            let (Some(once), Ok(times)) = (once, times.parse()) else {
-                return Err(self.error(&format!("{value} is not bytes")));
-            };
-            bytes.extend(once.repeat(times));
-        }
-        Ok(bytes)
-    }
-
-    fn bytes_of<const LENGTH: usize>(&self) -> Result<[u8; LENGTH], String> {
-        let bytes = self.bytes()?;
-        let length = bytes.len();
-        bytes
-            .try_into()
-            .map_err(|_| self.error(&format!("{length} bytes instead of {LENGTH}")))
-    }
-
-    fn number(&self) -> Result<usize, String> {
-        match self.values[..] {
-            [value] => value.parse().map_err(|_| self.error("no decimal number")),
-            _ => Err(self.error("one number is wanted")),
-        }
-    }
-}
-
-/// Pairs of hexadecimal digits.
-fn hexadecimal(digits: &str) -> Option<Vec<u8>> {
-    let digits: Option<Vec<u8>> = digits
-        .chars()
-        .map(|digit| digit.to_digit(16).map(|digit| digit as u8))
-        .collect();
-    let pairs = digits.filter(|digits| digits.len() % 2 == 0)?;
-    Some(pairs.chunks(2).map(|pair| pair[0] << 4 | pair[1]).collect())
+    text::read::<Draft>(text)
 }
 
 /// A case of which some is said.
 #[derive(Clone)]
-struct Draft<'t> {
-    name: String,
-    /// The words said since the case began.
-    said: Vec<&'t str>,
+struct Draft {
     lent: Lent,
     refused: Option<u8>,
     ran: Ran,
     storage_after: Option<Vec<u8>>,
 }
 
-impl<'t> Draft<'t> {
-    /// What holds where nothing is said.
-    fn new() -> Draft<'t> {
+impl Default for Draft {
+    fn default() -> Draft {
         Draft {
-            name: String::new(),
-            said: Vec::new(),
             lent: Lent {
                 chain: Vec::new(),
                 arguments: Vec::new(),
@@ -154,14 +52,16 @@ impl<'t> Draft<'t> {
             storage_after: None,
         }
     }
+}
 
-    fn take(&mut self, statement: &Statement<'t>) -> Result<(), String> {
-        let word = statement.word;
-        if word != "taken" && self.said.contains(&word) {
-            return Err(statement.error("said twice"));
-        }
-        self.said.push(word);
-        match word {
+impl text::Draft for Draft {
+    type Case = Case;
+
+    const ANSWERS: &'static [&'static str] = &["end", "limit", "refused"];
+    const REPEATED: &'static [&'static str] = &["taken"];
+
+    fn take(&mut self, statement: &Statement) -> Result<(), String> {
+        match statement.word {
             "chain" => self.lent.chain = statement.bytes()?,
             "arguments" => self.lent.arguments = statement.bytes()?,
             "storage" => self.lent.storage = statement.bytes()?,
@@ -174,10 +74,10 @@ impl<'t> Draft<'t> {
                 self.lent.restart.get_or_insert_default().arguments = statement.bytes()?;
             }
             "command-limit" => self.lent.limit = statement.number()?,
-            "end" => self.ran.csw = csw(statement)?,
+            "end" => self.ran.csw = statement.csw()?,
             "limit" => {
                 self.ran.ending = Ending::Limit;
-                self.ran.csw = csw(statement)?;
+                self.ran.csw = statement.csw()?;
             }
             "refused" => self.refused = Some(statement.number()? as u8),
             "sense" => self.ran.sense = statement.bytes_of()?,
@@ -195,28 +95,16 @@ impl<'t> Draft<'t> {
         Ok(())
     }
 
-    fn case(self) -> Result<Case, String> {
-        let answers = ["end", "limit", "refused"];
-        let given = self.said.iter().filter(|word| answers.contains(word));
-        if given.count() != 1 {
-            return Err(format!("{}: one answer is wanted", self.name));
-        }
-        Ok(Case {
-            name: self.name,
+    fn case(self, name: String) -> Case {
+        Case {
+            name,
             answer: self.refused.map_or(Answer::Ran(self.ran), Answer::Refused),
             storage_after: self
                 .storage_after
                 .unwrap_or_else(|| self.lent.storage.clone()),
             lent: self.lent,
-        })
+        }
     }
-}
-
-/// The seven bytes behind the first one, 00.
-fn csw(statement: &Statement) -> Result<[u8; 8], String> {
-    let mut csw = [0; 8];
-    csw[1..].copy_from_slice(&statement.bytes_of::<7>()?);
-    Ok(csw)
 }
 
 #[cfg(test)]

@@ -59,6 +59,22 @@ extern "C" {
         answer: *mut u8,
         answer_len: usize,
     ) -> u8;
+    fn giruve_recover(
+        chain: *const u8,
+        chain_len: usize,
+        report: *const u8,
+        report_len: usize,
+        extent: *const u8,
+        extent_len: usize,
+        storage: *mut u8,
+        storage_len: usize,
+        program: *mut u8,
+        program_len: usize,
+        restart_arguments: *mut u8,
+        restart_arguments_len: usize,
+        answer: *mut u8,
+        answer_len: usize,
+    ) -> u8;
 }
 
 /// What a run answers where no question refuses it.
@@ -78,10 +94,33 @@ pub struct RunAreas<'a> {
     pub faults: &'a mut [u8],
 }
 
-/// The areas that a restarted run has besides.
+/// The areas of a restart: a restarted run has them besides, a recovery writes them.
 pub struct RestartAreas<'a> {
     pub program: &'a mut [u8],
     pub arguments: &'a mut [u8],
+}
+
+/// What a recovery answers where no question refuses it.
+pub const ANSWERED: u8 = 0;
+
+/// Bytes of the area that a recovery answers in: the answer, its action, a CSW.
+pub const RECOVERY_ANSWER: usize = 1 + 1 + 8;
+
+/// The first of them.
+pub const ACTION_1: u8 = 1;
+pub const ACTION_2: u8 = 2;
+pub const REPEAT: u8 = 3;
+pub const CORRECTED_ONLY: u8 = 4;
+pub const FINISHED: u8 = 5;
+pub const RESTART: u8 = 6;
+
+/// The areas of a recovery but the one that it answers in.
+pub struct RecoveryAreas<'a> {
+    pub chain: &'a mut [u8],
+    pub report: &'a mut [u8],
+    pub extent: &'a mut [u8],
+    pub storage: &'a mut [u8],
+    pub restart: RestartAreas<'a>,
 }
 
 // Every call below is given areas that are valid for the lengths beside them and do not overlap;
@@ -160,6 +199,27 @@ pub fn run_restart(areas: RunAreas, restart: RestartAreas, answer: &mut [u8]) ->
             areas.image.len(),
             areas.faults.as_mut_ptr(),
             areas.faults.len(),
+            answer.as_mut_ptr(),
+            answer.len(),
+        )
+    }
+}
+
+pub fn recover(areas: RecoveryAreas, answer: &mut [u8]) -> u8 {
+    unsafe {
+        giruve_recover(
+            areas.chain.as_mut_ptr(),
+            areas.chain.len(),
+            areas.report.as_mut_ptr(),
+            areas.report.len(),
+            areas.extent.as_mut_ptr(),
+            areas.extent.len(),
+            areas.storage.as_mut_ptr(),
+            areas.storage.len(),
+            areas.restart.program.as_mut_ptr(),
+            areas.restart.program.len(),
+            areas.restart.arguments.as_mut_ptr(),
+            areas.restart.arguments.len(),
             answer.as_mut_ptr(),
             answer.len(),
         )

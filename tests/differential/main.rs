@@ -7,7 +7,6 @@
 mod simulator;
 
 mod arena;
-#[allow(dead_code)]
 #[path = "../cases/mod.rs"]
 mod cases;
 mod chains;
@@ -19,6 +18,9 @@ mod library;
 mod limits;
 mod marks;
 mod random;
+mod recoveries;
+mod recovery_marks;
+mod reports;
 mod runs;
 mod sizes;
 mod tally;
@@ -55,9 +57,10 @@ fn main() -> ExitCode {
         return ExitCode::FAILURE;
     }
     println!(
-        "{} inputs compared, {} of them runs, 0 disagreements",
+        "{} inputs compared, {} of them runs and {} recoveries, 0 disagreements",
         tally.compared,
-        tally.runs()
+        tally.runs(),
+        tally.recoveries()
     );
     ExitCode::SUCCESS
 }
@@ -72,7 +75,8 @@ fn compare_all(comparison: &mut Comparison, random: &mut Random) -> Result<(), D
         area_sizes(comparison, random, turn)?;
     }
     limits::compare_all(comparison, random)?;
-    runs::compare_all(comparison, random)
+    runs::compare_all(comparison, random)?;
+    recoveries::compare_all(comparison, random)
 }
 
 fn well_formed(

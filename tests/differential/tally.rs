@@ -1,6 +1,7 @@
-//! How often each answer, each broken rule and each mark of a run was seen.
+//! How often each answer, each broken rule and each mark of a run or a recovery was seen.
 
 use crate::marks::Mark;
+use crate::recovery_marks::RecoveryMark;
 use crate::simulator::areas::Area;
 use crate::simulator::extent::ExtentRule;
 use crate::simulator::faults::FaultRule;
@@ -46,7 +47,12 @@ pub const RUN_RESTART: Call = Call {
     answers: &[0, 1, 2, 3, 10],
 };
 
-const CALLS: [Call; 7] = [
+pub const RECOVER: Call = Call {
+    name: "giruve_recover",
+    answers: &[0, 1, 4, 5, 6, 7, 8, 9],
+};
+
+const CALLS: [Call; 8] = [
     CHECK_IMAGE,
     CHECK_FAULTS,
     CHECK_EXTENT,
@@ -54,6 +60,7 @@ const CALLS: [Call; 7] = [
     CHECK_RESTART_AREAS,
     RUN,
     RUN_RESTART,
+    RECOVER,
 ];
 const RUN_CALLS: [Call; 2] = [RUN, RUN_RESTART];
 
@@ -66,6 +73,7 @@ pub struct Tally {
     answers: BTreeMap<(Call, &'static str), Answers>,
     rules: BTreeMap<Refusal, u64>,
     marks: BTreeMap<(Call, Mark), u64>,
+    recovery_marks: BTreeMap<RecoveryMark, u64>,
 }
 
 impl Tally {
@@ -86,16 +94,29 @@ impl Tally {
         }
     }
 
+    /// Counts a recovery of which these are the marks.
+    pub fn count_recovery_marks(&mut self, marks: impl IntoIterator<Item = RecoveryMark>) {
+        for mark in marks {
+            *self.recovery_marks.entry(mark).or_default() += 1;
+        }
+    }
+
     /// Runs compared.
     pub fn runs(&self) -> u64 {
-        RUN_CALLS
-            .iter()
-            .flat_map(|&call| self.total(call).into_values())
-            .sum()
+        RUN_CALLS.iter().map(|&call| self.calls(call)).sum()
+    }
+
+    /// Recoveries compared.
+    pub fn recoveries(&self) -> u64 {
+        self.calls(RECOVER)
+    }
+
+    fn calls(&self, call: Call) -> u64 {
+        self.total(call).into_values().sum()
     }
 
     /// Prints how often each answer was seen, by call and by kind, each broken rule, and in how
-    /// many runs each mark was.
+    /// many runs and recoveries each mark was.
     pub fn print(&self) {
         for call in CALLS {
             println!("{:<36}{}", call.name, Counts(&self.total(call)));
@@ -113,6 +134,15 @@ impl Tally {
             let mark = mark.to_string();
             println!("  {mark:<48}{chain:>9}{restarted:>11}");
         }
+        println!("recoveries with");
+        for mark in RecoveryMark::all() {
+            let times = self.recoveries_with(mark);
+            println!("  {:<58}{times:>10}", mark.to_string());
+        }
+    }
+
+    fn recoveries_with(&self, mark: RecoveryMark) -> u64 {
+        self.recovery_marks.get(&mark).copied().unwrap_or(0)
     }
 
     fn runs_with(&self, call: Call, mark: Mark) -> u64 {
@@ -140,7 +170,15 @@ impl Tally {
             let missing = missing.filter(move |&mark| self.runs_with(call, mark) == 0);
             missing.map(move |mark| format!("{} with {mark}", call.name))
         });
-        answers.chain(rules).chain(marks).collect()
+        let recovery_marks = RecoveryMark::all()
+            .into_iter()
+            .filter(|&mark| self.recoveries_with(mark) == 0)
+            .map(|mark| format!("{} with {mark}", RECOVER.name));
+        answers
+            .chain(rules)
+            .chain(marks)
+            .chain(recovery_marks)
+            .collect()
     }
 
     fn kinds(&self, call: Call) -> impl Iterator<Item = (&(Call, &'static str), &Answers)> {

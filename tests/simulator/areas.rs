@@ -65,6 +65,23 @@ pub fn check_restart(program: usize, arguments: usize) -> Result<(), Refusal> {
     Area::RestartArguments.check(arguments)
 }
 
+/// What is lent to a recovery, in bytes. The report may have any length.
+#[derive(Clone, Copy, Debug)]
+pub struct RecoverySizes {
+    pub chain: usize,
+    pub extent: usize,
+    pub storage: usize,
+    pub program: usize,
+    pub restart_arguments: usize,
+}
+
+pub fn check_recovery(sizes: RecoverySizes) -> Result<(), Refusal> {
+    Area::Chain.check(sizes.chain)?;
+    Area::Extent.check(sizes.extent)?;
+    Area::Storage.check(sizes.storage)?;
+    check_restart(sizes.program, sizes.restart_arguments)
+}
+
 #[cfg(test)]
 mod tests {
     use super::*;
@@ -127,5 +144,29 @@ mod tests {
         assert_eq!(answer(&check_restart(16, 64)), 1);
         assert_eq!(answer(&check_restart(64, 15)), 1);
         assert_eq!(answer(&check_restart(65, 16)), 1);
+    }
+
+    #[test]
+    fn recovery_asks_for_each_of_its_areas() {
+        let good = RecoverySizes {
+            chain: 40,
+            extent: 8,
+            storage: 0,
+            program: 64,
+            restart_arguments: 16,
+        };
+        assert_eq!(answer(&check_recovery(good)), 0);
+        let breaches: [fn(&mut RecoverySizes); 5] = [
+            |sizes| sizes.chain = 0,
+            |sizes| sizes.extent = 9,
+            |sizes| sizes.storage = 65_537,
+            |sizes| sizes.program = 72,
+            |sizes| sizes.restart_arguments = 0,
+        ];
+        for breach in breaches {
+            let mut sizes = good;
+            breach(&mut sizes);
+            assert_eq!(answer(&check_recovery(sizes)), 1);
+        }
     }
 }

@@ -60,7 +60,7 @@ impl Ccw {
     }
 
     /// What is asked of every CCW but a TIC.
-    fn checked(self) -> Result<Ccw, ProgramCheck> {
+    pub fn checked(self) -> Result<Ccw, ProgramCheck> {
         if self.count == 0 {
             return Err(ProgramCheck::CountZero);
         }
@@ -101,6 +101,15 @@ pub struct Program<'a> {
 }
 
 impl<'a> Program<'a> {
+    /// A chain of which no command is carried out.
+    pub fn of_chain(chain: &'a [u8]) -> Program<'a> {
+        Program {
+            chain,
+            arguments: &[],
+            restart: None,
+        }
+    }
+
     fn start(&self) -> usize {
         match self.restart {
             Some(_) => RESTART_PROGRAM,
@@ -214,6 +223,11 @@ impl<'a> Channel<'a> {
 
     /// The CCW at an address, or the one that a TIC there names.
     pub fn fetch(&mut self, at: usize) -> Result<Ccw, ProgramCheck> {
+        self.fetch_unchecked(at)?.checked()
+    }
+
+    /// The same, whatever its count and flags.
+    pub fn fetch_unchecked(&mut self, at: usize) -> Result<Ccw, ProgramCheck> {
         let mut ccw = self.fetch_one(at)?;
         if ccw.is_tic() {
             ccw = self.fetch_one(ccw.address)?;
@@ -221,10 +235,11 @@ impl<'a> Channel<'a> {
                 return Err(ProgramCheck::TicToTic);
             }
         }
-        ccw.checked()
+        Ok(ccw)
     }
 
-    fn fetch_one(&mut self, at: usize) -> Result<Ccw, ProgramCheck> {
+    /// The CCW at an address, whatever it is.
+    pub fn fetch_one(&mut self, at: usize) -> Result<Ccw, ProgramCheck> {
         let ccw = self.program.ccw(self.last, at)?;
         self.last = at;
         Ok(ccw)
@@ -304,14 +319,6 @@ mod tests {
         ccws.concat()
     }
 
-    fn program(chain: &[u8]) -> Program<'_> {
-        Program {
-            chain,
-            arguments: &[],
-            restart: None,
-        }
-    }
-
     /// Address in the CSW.
     fn shown(channel: &Channel) -> usize {
         let csw = channel.csw(Status::ended(0));
@@ -328,7 +335,7 @@ mod tests {
 
     /// The stretches of a read of `length` bytes whose first CCW is the chain's, 600 bytes lent.
     fn walked(chain: &[u8], length: usize) -> (Vec<Stretch>, Result<ReadEnd, ProgramCheck>) {
-        let mut channel = Channel::new(program(chain), 600);
+        let mut channel = Channel::new(Program::of_chain(chain), 600);
         let first = channel.fetch_first().unwrap();
         let mut stretches = Vec::new();
         let end = channel.walk(first, length, |stretch| stretches.push(stretch));
@@ -338,7 +345,7 @@ mod tests {
     #[test]
     fn ccw_taken_apart() {
         let bytes = [0x1E, 0x12, 0x34, 0x56, 0xA0, 0xFF, 0x01, 0x02];
-        let mut channel = Channel::new(program(&bytes), 0);
+        let mut channel = Channel::new(Program::of_chain(&bytes), 0);
         let expected = Ccw {
             at: 0,
             command: 0x1E,
@@ -355,7 +362,7 @@ mod tests {
     fn tic_is_any_code_that_ends_in_8() {
         for code in 0..=255 {
             let bytes = ccw(code, 0, 0, 1);
-            let mut channel = Channel::new(program(&bytes), 0);
+            let mut channel = Channel::new(Program::of_chain(&bytes), 0);
             let is_tic = channel.fetch_first() == Err(ProgramCheck::TicFirst);
             assert_eq!(is_tic, code % 16 == 8);
         }
@@ -369,7 +376,7 @@ mod tests {
             ccw(0x08, 0x08, 0, 0),
             ccw(0x03, 0, 0, 2),
         ]);
-        let mut channel = Channel::new(program(&bytes), 0);
+        let mut channel = Channel::new(Program::of_chain(&bytes), 0);
         assert_eq!(channel.fetch(0x08).map(|ccw| ccw.at), Ok(0x18));
         assert_eq!(shown(&channel), 0x20);
         assert_eq!(channel.fetch(0x10), Err(ProgramCheck::TicToTic));
@@ -379,7 +386,7 @@ mod tests {
     #[test]
     fn bad_address_is_not_fetched() {
         let bytes = chain(&[ccw(0x03, 0, CC, 1), ccw(0x08, 0x0C, 0, 0)]);
-        let mut channel = Channel::new(program(&bytes), 0);
+        let mut channel = Channel::new(Program::of_chain(&bytes), 0);
         assert_eq!(channel.fetch(0x10), Err(ProgramCheck::PastTheChain));
         assert_eq!(channel.fetch(0x04), Err(ProgramCheck::NotAMultipleOf8));
         assert_eq!(shown(&channel), 0x08);
@@ -395,7 +402,7 @@ mod tests {
             ccw(0x00, 0, 0x04, 1),
             ccw(0x00, 0, !FLAGS_ZERO, 1),
         ]);
-        let mut channel = Channel::new(program(&bytes), 0);
+        let mut channel = Channel::new(Program::of_chain(&bytes), 0);
         assert_eq!(channel.fetch(0x00), Err(ProgramCheck::CountZero));
         assert_eq!(channel.fetch(0x10), Err(ProgramCheck::LowFlags));
         assert!(channel.fetch(0x18).is_ok());
@@ -413,7 +420,7 @@ mod tests {
         };
         let program = Program {
             restart: Some(restart),
-            ..program(&chain)
+            ..Program::of_chain(&chain)
         };
         let mut channel = Channel::new(program, 0);
         assert_eq!(channel.fetch_first().map(|ccw| ccw.at), Ok(0x1000));
@@ -530,7 +537,7 @@ mod tests {
     #[test]
     fn csw_written() {
         let bytes = chain(&[ccw(0x03, 0, CC, 1); 40]);
-        let mut channel = Channel::new(program(&bytes), 0);
+        let mut channel = Channel::new(Program::of_chain(&bytes), 0);
         channel.fetch(0x0138).unwrap();
         let status = Status {
             unit: 0x0E,

@@ -1,8 +1,9 @@
-//! Fields and CCWs written: the other direction of `fields`, `pack`, `faults` and `channel`.
+//! Fields and CCWs written: the other direction of `fields`, `pack`, `faults`, `report` and `channel`.
 
 use super::channel::CCW_LENGTH;
 use super::faults::{Fault, FAULT};
 use super::pack::{TrackAddress, HOME_ADDRESS, RECORD};
+use super::report::{self, Report};
 
 /// Appends a field of at most 65,535 bytes of contents.
 pub fn put_field(bytes: &mut Vec<u8>, tag: u8, contents: &[u8]) {
@@ -63,4 +64,23 @@ pub fn put_record(image: &mut Vec<u8>, track: TrackAddress, number: u8, key: &[u
 
 pub fn put_fault(list: &mut Vec<u8>, of_record: Fault) {
     put_field(list, FAULT, &fault(of_record));
+}
+
+/// Tries of 0 are left out.
+pub fn report(report: &Report) -> Vec<u8> {
+    let mut bytes = Vec::new();
+    put_field(&mut bytes, report::SENSE, &report.sense);
+    put_field(&mut bytes, report::CSW, &report.csw);
+    let first = (report.first as u16).to_be_bytes();
+    put_field(&mut bytes, report::FIRST_CCW, &first);
+    if let Some(mask) = report.mask {
+        put_field(&mut bytes, report::FILE_MASK, &[mask]);
+    }
+    if let Some(argument) = report.seek_argument {
+        put_field(&mut bytes, report::SEEK_ARGUMENT, &argument);
+    }
+    if report.tries != 0 {
+        put_field(&mut bytes, report::TRIES, &[report.tries]);
+    }
+    bytes
 }

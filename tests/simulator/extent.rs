@@ -27,6 +27,10 @@ impl Extent {
         }
         Ok(Extent { first, last })
     }
+
+    pub fn contains(&self, track: TrackAddress) -> bool {
+        (self.first..=self.last).contains(&track)
+    }
 }
 
 #[cfg(test)]
@@ -69,6 +73,25 @@ mod tests {
         assert_eq!(checked((9, 18), (10, 0)), Ok(()));
         assert_eq!(checked((9, 18), (9, 17)), after);
         assert_eq!(checked((10, 0), (9, 18)), after);
+    }
+
+    #[test]
+    fn tracks_from_first_to_last() {
+        let extent = check_extent(&[0, 1, 0, 17, 0, 3, 0, 0], LAST_CYLINDER).unwrap();
+        for (cylinder, head, inside) in [
+            (1, 16, false),
+            (1, 17, true),
+            (1, 18, true),
+            (2, 0, true),
+            (2, 18, true),
+            (3, 0, true),
+            (3, 1, false),
+            (0, 18, false),
+            (4, 0, false),
+        ] {
+            let track = TrackAddress { cylinder, head };
+            assert_eq!(extent.contains(track), inside);
+        }
     }
 
     #[test]

@@ -22,20 +22,32 @@ macro_rules! rules {
 
 pub mod areas;
 pub mod channel;
+pub mod correct;
+pub mod cut;
 pub mod drive;
 pub mod encode;
 pub mod extent;
 pub mod faults;
 pub mod fields;
+pub mod interrupted;
 pub mod large;
 pub mod pack;
+pub mod recovery;
+pub mod report;
+pub mod restart;
 pub mod run;
 pub mod sample;
+pub mod table;
 
 use areas::Area;
+use channel::ProgramCheck;
+use cut::CutRule;
 use extent::{Extent, ExtentRule};
 use faults::{FaultList, FaultRule};
+use interrupted::InterruptedRule;
 use pack::{ImageRule, Pack};
+use report::ReportRule;
+use table::Action;
 
 /// The last cylinder of the pack. What depends on it takes it as an argument.
 pub const LAST_CYLINDER: u16 = 410;
@@ -46,7 +58,19 @@ pub enum Refusal {
     Areas(Area),
     Image(ImageRule),
     Faults(FaultRule),
+    Report(ReportRule),
     Extent(ExtentRule),
+    NoRow,
+    /// The table's action is none that a recovery knows.
+    Action(Action),
+    /// Sense 7 is not 53.
+    SenseFormat,
+    Cut(CutRule),
+    /// Found in the walk of the cut read's data chain.
+    Walk(ProgramCheck),
+    /// Why there is no next CCW where one is needed.
+    Next(ProgramCheck),
+    Interrupted(InterruptedRule),
 }
 
 impl Refusal {
@@ -56,7 +80,12 @@ impl Refusal {
             Refusal::Areas(_) => 1,
             Refusal::Image(_) => 2,
             Refusal::Faults(_) => 3,
+            Refusal::Report(_) => 4,
             Refusal::Extent(_) => 5,
+            Refusal::NoRow => 6,
+            Refusal::Action(_) => 7,
+            Refusal::SenseFormat => 8,
+            Refusal::Cut(_) | Refusal::Walk(_) | Refusal::Next(_) | Refusal::Interrupted(_) => 9,
         }
     }
 }

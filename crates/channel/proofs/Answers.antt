@@ -1,18 +1,19 @@
 -- What the channel's code answers, from the tests that it makes.
 --   no-length .. some-length   the length that a read's end shows
 --   unformed .. in-range       whether a read may use a CCW
---   no-room .. there           the CCW at an address of an area
+--   misplaced .. stands-inside whether a CCW stands at a place, and which
 --   nothing-there .. tic-lands the CCW that comes next
-use Prim.Native.Nat.{ℕ, _+_, _-_, _%_, _<_, _≤_}
+use Prim.Native.Nat.{ℕ, _+_, _/_, _%_, _<_, _≤_}
 use native.Mathlib.Omega.{arith}
 use mathlib.Core.Path.{_≡_, refl, sym, _∙_}
 use mathlib.Core.Bool.{Bool, true, false, _&&_, _||_, not}
 use mathlib.Core.Option.{Option, none, some}
 use mathlib.Core.List.{List}
-use lib.Dec.{eqb, leb}
+use lib.Dec.{eqb, ltb, leb}
 use lib.ListN.{length}
-use borrow.Author.Tests.{le-leb, lt-leb, eq-eqb, ne-eqb}
+use borrow.Author.Tests.{ltb-true, ltb-false, leb-true, le-leb, lt-leb, eq-eqb, ne-eqb}
 use Rattle.base.specs.Choice.{pick}
+use Rattle.base.proofs.Choice.{and-left}
 use Rattle.channel.specs.declared.Ccw.{Ccw}
 use Rattle.channel.specs.declared.Location.{Location}
 use Rattle.channel.specs.declared.Location.the-variants.{Chain, Restart}
@@ -20,9 +21,9 @@ use Rattle.channel.specs.declared.Slot.{Slot}
 use Rattle.channel.specs.declared.Slot.the-variants.{Holds, Past}
 use Rattle.channel.specs.declared.Fetched.{Fetched}
 use Rattle.channel.specs.declared.Fetched.the-variants.{Got, Broken}
-use Rattle.channel.specs.Ccw.{Lent, ccwAt, isTic, formed, skips, suppresses, chainsData, fetchIn, fetch, target, landed, follow, resolve, storageInside}
+use Rattle.channel.specs.Ccw.{Lent, isTic, formed, skips, suppresses, chainsData, fetchIn, fetch, target, landed, follow, resolve, storageInside}
 use Rattle.channel.specs.Walk.{readable, incorrectLength}
-use Rattle.channel.specs.Fetch.{showsLength, FetchedAt, FetchedFrom}
+use Rattle.channel.specs.Fetch.{showsLength, standsAt, standsIn, ccwIn, Inside, Fetches}
 
 module _ (c : Ccw) where
   pub unsuppressed : suppresses c ≡ false → true ≡ showsLength c
@@ -71,19 +72,37 @@ module _ (c : Ccw) where
       unfolding readable storageInside
       in-range f = rw (e, f)
 
-module _ (s : List ℕ) (a : ℕ) where
-  pub no-room : length s < a + 8 → none ≡ fetchIn s a
-  unfolding fetchIn pick
-  no-room h = rw (lt-leb _ _ h)
+module _ (n a : ℕ) where
+  pub misplaced : (a % 8 ≡ 0 → ⊥) → false ≡ standsAt n a
+  misplaced e = rw (ne-eqb _ _ e) (neither (leb (a + 8) n))
+    where
+      neither : (b : Bool) → false ≡ (b && false)
+      neither true = refl
+      neither false = refl
 
-  module _ (h : a + 8 ≤ length s) where
-    pub misplaced : (a % 8 ≡ 0 → ⊥) → none ≡ fetchIn s a
-    unfolding fetchIn pick
-    misplaced e = rw (le-leb _ _ h, ne-eqb _ _ e)
+  -- an area of n bytes has n / 8 CCWs
+  pub counted : a % 8 ≡ 0 → ltb (a / 8) (n / 8) ≡ standsAt n a
+  counted e = by (ltb (a / 8) (n / 8)) refl
+    where
+      by : (b : Bool) → ltb (a / 8) (n / 8) ≡ b → b ≡ standsAt n a
+      by true h = let k = ltb-true (a / 8) (n / 8) h in rw (le-leb (a + 8) n (omega arith), eq-eqb _ _ e)
+      by false h = let k = ltb-false (a / 8) (n / 8) h in rw (lt-leb (a + 8) n (omega arith))
 
-    pub there : {c : Ccw} → a % 8 ≡ 0 → c ≡ ccwAt s a → some c ≡ fetchIn s a
-    unfolding fetchIn pick
-    there e q = rw (le-leb _ _ h, eq-eqb _ _ e, q)
+module _ (s r : List ℕ) where
+  pub nothing-stands : (l : Location) → standsIn s r l ≡ false → Fetches s r l Past
+  unfolding fetch fetchIn pick standsIn
+  nothing-stands (Chain a) h = λ p e f. rw (e, h)
+  nothing-stands (Restart a) h = λ p e f. rw (f, h)
+
+  pub one-stands : (l : Location) {c : Ccw} → standsIn s r l ≡ true → c ≡ ccwIn s r l → Fetches s r l (Holds c)
+  unfolding fetch fetchIn pick standsIn ccwIn
+  one-stands (Chain a) h q = λ p e f. rw (e, h, q)
+  one-stands (Restart a) h q = λ p e f. rw (f, h, q)
+
+  pub stands-inside : (l : Location) → standsIn s r l ≡ true → Inside s r l
+  unfolding standsIn
+  stands-inside (Chain a) h = leb-true _ _ (and-left _ _ h)
+  stands-inside (Restart a) h = leb-true _ _ (and-left _ _ h)
 
 module _ (p : Lent) (last l : Location) where
   pub nothing-there : none ≡ fetch p l → Broken last ≡ resolve p last l
@@ -108,13 +127,3 @@ module _ (p : Lent) (last l : Location) where
         pub tic-lands : isTic d ≡ false → Got to d ≡ resolve p last l
         unfolding resolve follow landed pick
         tic-lands u = rw (← f, t, ← e, ← g, u)
-
--- a CCW that was fetched in the chain, or in a restart program, stands there
-module _ (s r : List ℕ) (a : ℕ) where
-  pub in-chain : (x : Slot) → FetchedAt (length s) a x → FetchedFrom s r (Chain a) x
-  in-chain Past h = tt
-  in-chain (Holds c) h = h
-
-  pub in-restart : (x : Slot) → FetchedAt (length r) a x → FetchedFrom s r (Restart a) x
-  in-restart Past h = tt
-  in-restart (Holds c) h = h

@@ -1,9 +1,10 @@
 -- What the channel's code answers, in terms of the definitions.
-use Prim.Native.Nat.{ℕ, _+_, _<_, _≤_}
+use Prim.Native.Nat.{ℕ, _+_, _%_, _<_, _≤_}
 use mathlib.Core.Path.{_≡_}
 use mathlib.Core.Bool.{Bool, _&&_, not}
 use mathlib.Core.Option.{Option, none, some}
 use mathlib.Core.List.{List}
+use lib.Dec.{eqb, leb}
 use lib.ListN.{length}
 use Rattle.channel.specs.declared.Ccw.{Ccw}
 use Rattle.channel.specs.declared.Location.{Location}
@@ -12,7 +13,7 @@ use Rattle.channel.specs.declared.Fetched.{Fetched}
 use Rattle.channel.specs.declared.Fetched.the-variants.{Got, Broken}
 use Rattle.channel.specs.declared.Slot.{Slot}
 use Rattle.channel.specs.declared.Slot.the-variants.{Holds, Past}
-use Rattle.channel.specs.Ccw.{Lent, chainsData, suppresses, fetch, resolve}
+use Rattle.channel.specs.Ccw.{Lent, ccwAt, chainsData, suppresses, fetch, resolve}
 
 -- "suppressed by SLI only with CD off"
 unfoldable pub showsLength : Ccw → Bool
@@ -27,10 +28,18 @@ pub record InBytes (c : Ccw) : Type 0 where
   pub address : c .address < 16777216
   pub count : c .count < 65536
 
--- a CCW that was fetched at a place of n bytes
-abbrev pub FetchedAt : ℕ → ℕ → Slot → Type 0
-FetchedAt n a Past = Unit {0}
-FetchedAt n a (Holds c) = (a + 8 ≤ n) × InBytes c
+-- whether a CCW stands at an address of an area of n bytes
+abbrev pub standsAt : ℕ → ℕ → Bool
+standsAt n a = leb (a + 8) n && eqb (a % 8) 0
+
+-- whether one stands at a place of the chain s and the restart program r, and which
+unfoldable pub standsIn : List ℕ → List ℕ → Location → Bool
+standsIn s r (Chain a) = standsAt (length s) a
+standsIn s r (Restart a) = standsAt (length r) a
+
+unfoldable pub ccwIn : List ℕ → List ℕ → Location → Ccw
+ccwIn s r (Chain a) = ccwAt s a
+ccwIn s r (Restart a) = ccwAt r a
 
 -- a place of a CCW that is wholly in its area
 abbrev pub Inside : List ℕ → List ℕ → Location → Type 0

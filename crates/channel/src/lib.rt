@@ -3,16 +3,17 @@
 ghost use mathlib.Core.Path.{_≡_};
 ghost use Prim.Native.Nat.{_+_, _<_, _≤_};
 ghost use lib.ListN.{length};
-ghost use Rattle.channel.specs.Ccw.{ccwAt, fetchIn, formed, isTic, chainsData, chainsCommand, suppresses, skips, storageInside};
+ghost use Rattle.channel.specs.Ccw.{ccwAt, formed, isTic, chainsData, chainsCommand, suppresses, skips, storageInside};
 ghost use Rattle.channel.specs.Walk.{readable, incorrectLength};
-ghost use Rattle.channel.specs.Fetch.{showsLength, slotOf, InBytes, FetchedAt, FetchedFrom, GotInside, Fetches, Resolves};
+ghost use Rattle.channel.specs.Fetch.{showsLength, standsAt, standsIn, ccwIn, InBytes, Inside, FetchedFrom, GotInside, Fetches, Resolves};
 
-// A CCW's fields; its ignored byte is left out.
+// A CCW's fields; its ignored byte is left out. Numbers stand before bytes here and in other structs of a step, so that no padding
+// lies between: the compiler would move it along.
 pub struct Ccw {
-    pub command: u8,
     pub address: usize,
-    pub flags: u8,
     pub count: usize,
+    pub command: u8,
+    pub flags: u8,
 }
 
 // A CCW's place: in the chain, or in a restart program, counted from that area's front.
@@ -27,12 +28,12 @@ pub enum Fetched {
     Broken(Location),
 }
 
-// The channel status word: its address, unit and channel status, and the count left.
+// The channel status word: its address, the count left, unit and channel status.
 pub struct Csw {
     pub address: usize,
+    pub count: usize,
     pub unit: u8,
     pub channel: u8,
-    pub count: usize,
 }
 
 // What stands at a CCW address of an area.
@@ -137,31 +138,46 @@ fn ccw_at(s: &[u8], a: usize) -> Ccw
     }
 }
 
-// The CCW at an address of an area, if there is one.
-fn fetch_in(s: &[u8], a: usize) -> Slot
-    ensures { λ r. ⌜ slotOf r ≡ fetchIn (now (s .entry)) a ⌝ }
-    ensures { λ r. ⌜ FetchedAt (length (now (s .entry))) a r ⌝ }
+// Whether a CCW stands at an address of an area of n bytes: one past its end or not a multiple of 8 has none.
+fn stands(n: usize, a: usize) -> bool
+    ensures { λ r. ⌜ r ≡ standsAt n a ⌝ }
 {
-    if s.len() < 8 {
-        return Slot::Past;
-    }
-    if s.len() - 8 < a {
-        return Slot::Past;
-    }
     if a % 8 != 0 {
-        return Slot::Past;
+        return false;
     }
-    Slot::Holds(ccw_at(s, a))
+    a / 8 < n / 8
+}
+
+// Whether one stands at a place.
+fn holds(chain: &[u8], program: &[u8], l: Location) -> bool
+    ensures { λ r. ⌜ r ≡ standsIn (now (chain .entry)) (now (program .entry)) l ⌝ }
+{
+    match l {
+        Location::Chain(a) => stands(chain.len(), a),
+        Location::Restart(a) => stands(program.len(), a),
+    }
+}
+
+// The CCW that stands there.
+fn held(chain: &[u8], program: &[u8], l: Location) -> Ccw
+    requires { ⌜ Inside (now chain) (now program) l ⌝ }
+    ensures { λ r. ⌜ r ≡ ccwIn (now (chain .entry)) (now (program .entry)) l ⌝ }
+    ensures { λ r. ⌜ InBytes r ⌝ }
+{
+    match l {
+        Location::Chain(a) => ccw_at(chain, a),
+        Location::Restart(a) => ccw_at(program, a),
+    }
 }
 
 pub fn fetch(chain: &[u8], program: &[u8], l: Location) -> Slot
     ensures { λ r. ⌜ Fetches (now (chain .entry)) (now (program .entry)) l r ⌝ }
     ensures { λ r. ⌜ FetchedFrom (now (chain .entry)) (now (program .entry)) l r ⌝ }
 {
-    match l {
-        Location::Chain(a) => fetch_in(chain, a),
-        Location::Restart(a) => fetch_in(program, a),
+    if holds(chain, program, l) {
+        return Slot::Holds(held(chain, program, l));
     }
+    Slot::Past
 }
 
 // Where a TIC leads.
@@ -181,20 +197,30 @@ fn target(l: Location, to: usize) -> Location
     }
 }
 
+// The same place, built anew: without padding to carry along, `resolve` is small enough for the compiler to build it in.
+fn anew(l: Location) -> Location
+    ensures { λ r. ⌜ r ≡ l ⌝ }
+{
+    match l {
+        Location::Chain(a) => Location::Chain(a),
+        Location::Restart(a) => Location::Restart(a),
+    }
+}
+
 // The CCW at a place, through at most one TIC; `last` is the one that was fetched before it.
 pub fn resolve(chain: &[u8], program: &[u8], last: Location, l: Location) -> Fetched
     ensures { λ r. ⌜ Resolves (now (chain .entry)) (now (program .entry)) last l r ⌝ }
     ensures { λ r. ⌜ GotInside (now (chain .entry)) (now (program .entry)) r ⌝ }
 {
     let Slot::Holds(c) = fetch(chain, program, l) else {
-        return Fetched::Broken(last);
+        return Fetched::Broken(anew(last));
     };
     if !c.is_tic() {
-        return Fetched::Got(l, c);
+        return Fetched::Got(anew(l), c);
     }
     let to = target(l, c.address);
     let Slot::Holds(e) = fetch(chain, program, to) else {
-        return Fetched::Broken(l);
+        return Fetched::Broken(anew(l));
     };
     if e.is_tic() {
         return Fetched::Broken(to);

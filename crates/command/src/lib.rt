@@ -32,12 +32,12 @@ pub enum Status {
     Refused(Check),
 }
 
-// Between two commands: the place of the next CCW, the CCW that was fetched last with its count left, and the drive.
+// Between two commands: the drive, the place of the next CCW, and the CCW that was fetched last with its count left.
 pub struct State {
+    pub drive: Drive,
     pub at: Location,
     pub last: Location,
     pub left: usize,
-    pub drive: Drive,
 }
 
 // A chain's end.
@@ -47,20 +47,20 @@ pub struct End {
     pub mask: FileMask,
 }
 
-// A cut by a faulted data area: the record, restart and error displacement, the three pattern bytes, whether the count ran out
-// first, the first CCW of the read, the file mask, and the CSW.
+// A cut by a faulted data area: the CSW, the record, restart and error displacement, the first CCW of the read, the three pattern
+// bytes, whether the count ran out first, and the file mask.
 pub struct Cut {
+    pub csw: Csw,
     pub at: Address,
     pub r: usize,
     pub restart: usize,
     pub error: usize,
+    pub first: Location,
     pub pattern0: u8,
     pub pattern1: u8,
     pub pattern2: u8,
     pub over: bool,
-    pub first: Location,
     pub mask: FileMask,
-    pub csw: Csw,
 }
 
 pub enum Answer {

@@ -1,20 +1,22 @@
 -- Reads of a record, from the tests that the code makes.
---   count-read .. faulted-read    by what data area is taken, and whether a fault names it
+--   empty-read .. faultless-read  by what data area is taken, and whether a fault names it
+--   none-taken, one-taken         the fault of the data area that is taken
+--   not-empty                     that area has bytes
 --   named-found                   the fault that was found names the record
 --   read-none, read-taken         a read by what the drive takes
 --   home-none, home-read          the home address
 use Prim.Native.Nat.{ℕ, _-_, _/_, _%_, _≤_}
 use native.Mathlib.Omega.{arith}
 use mathlib.Core.Path.{_≡_, refl, ap, ap₂, sym, _∙_}
-use mathlib.Core.Bool.{Bool, true, false}
+use mathlib.Core.Bool.{Bool, true, false, _&&_}
 use mathlib.Core.Option.{Option, none, some}
 use mathlib.Core.List.{List, [], _∷_, _++_}
 use lib.Dec.{eqb}
 use lib.ListN.{length}
-use borrow.Author.Tests.{eq-eqb, ne-eqb}
+use borrow.Author.Tests.{eq-eqb, ne-eqb, eqb-false}
 use Rattle.base.specs.Choice.{pick, opt}
 use Rattle.base.specs.Bytes.{two}
-use Rattle.base.proofs.Choice.{pick-true, pick-false}
+use Rattle.base.proofs.Choice.{pick-true, pick-false, split}
 use Rattle.address.specs.Order.{lastCylinder}
 use Rattle.pack.specs.declared.Place.{Place}
 use Rattle.pack.specs.Pack.{Record, Track, packOf, trackIn}
@@ -22,6 +24,7 @@ use Rattle.pack.specs.Places.{recordFrom}
 use Rattle.image.specs.Image.{wellFormed}
 use Rattle.image.proofs.Sound.{track-sound}
 use Rattle.faults.specs.declared.Listed.{Listed}
+use Rattle.faults.specs.declared.FaultAt.{FaultAt}
 use Rattle.faults.specs.declared.FaultAt.the-variants.{Found, NoFault}
 use Rattle.faults.specs.Faults.{Fault, faultsAt, naming}
 use Rattle.faults.specs.FaultAt.{faultFrom, FaultFound}
@@ -38,7 +41,7 @@ use Rattle.position.specs.declared.Taken.the-variants.{Takes, Nothing}
 use Rattle.position.specs.Standing.{driveOf, TakesFor}
 use Rattle.command.specs.declared.Answer.{Answer}
 use Rattle.command.specs.Answer.{answerOf, Answers}
-use Rattle.execute.specs.Executes.{FaultsInside, Ends, Carries, Struck, ReadsBytes, planOf, recordPlan, Homes}
+use Rattle.execute.specs.Executes.{FaultTaken, FaultsInside, Ends, Carries, Struck, ReadsBytes, planOf, recordPlan, Homes}
 
 same-name : (fs : List Fault) (y : Record) (x : Place) (o : Option Fault) → y .at ≡ x .at → y .r ≡ x .r → naming fs (x .at) (x .r) ≡ o → naming fs (y .at) (y .r) ≡ o
 same-name fs y x o a b e = ap₂ (naming fs) a b ∙ e
@@ -47,6 +50,17 @@ pub named-found : (faults : List ℕ) (k : Read) (x : Place) (n : ℕ) (f : List
     → f .displacement .0 ≤ n
 unfolding faultFrom
 named-found faults k x n f h i g = i .2 (faultFrom f) h (g (i .0) (i .1))
+
+module _ (faults : List ℕ) (k : Read) (x : Place) where
+  pub none-taken : k .datas ≡ false → FaultTaken faults k x NoFault
+  none-taken e = λ h. let z : _≡_ {A = ℕ} 0 1 = cc in absurd (omega arith)
+
+  pub one-taken : (r : FaultAt) → k .datas ≡ true → FaultFound faults 0 (x .at) (x .r) r → FaultTaken faults k x r
+  one-taken (Found f) h g = (h, g)
+  one-taken NoFault h g = λ _. g
+
+pub not-empty : (k : Read) (x : Place) → k .datas ≡ true → (k .datas && eqb (x .body) (x .next)) ≡ false → x .body ≡ x .next → ⊥
+not-empty k x h s = eqb-false (x .body) (x .next) (rw h at s)
 
 module _ (chain program faults : List ℕ) (l : Location) (c : Ccw) (k : Read) (x : Place) (bs : List ℕ) (e : Abstract.Drive) (st : List ℕ) (r : Answer) (after : List ℕ) where
   -- from the data area that is among the bytes
@@ -59,7 +73,7 @@ module _ (chain program faults : List ℕ) (l : Location) (c : Ccw) (k : Read) (
   unfolding Step.areaOf pick
   no-area y h = rw h
 
-  pub count-read : k .datas ≡ false → Ends chain program l c (length bs) st (Step.settled bs e st) r after → ReadsBytes chain program faults l c k x bs e st r after
+  count-read : k .datas ≡ false → Ends chain program l c (length bs) st (Step.settled bs e st) r after → ReadsBytes chain program faults l c k x bs e st r after
   unfolding Step.carry Step.planTransfer Step.transferred
   count-read h g = λ y a b n q. of-area y Step.nothing (no-area y h) q (λ p fs u v w. g p u v)
 
@@ -80,7 +94,7 @@ module _ (chain program faults : List ℕ) (l : Location) (c : Ccw) (k : Read) (
       data-area : (y : Record) → length (y .body) ≡ x .next - x .body → Step.areaOf k y ≡ Step.dataOf y
       data-area y n = some-area y (λ (z : length (y .body) ≡ 0). s (omega arith))
 
-      pub sound-read : FaultFound faults 0 (x .at) (x .r) NoFault → Ends chain program l c (length bs) st (Step.settled bs e st) r after
+      sound-read : FaultFound faults 0 (x .at) (x .r) NoFault → Ends chain program l c (length bs) st (Step.settled bs e st) r after
           → ReadsBytes chain program faults l c k x bs e st r after
       unfolding Step.carry Step.planTransfer Step.transferred Step.struck
       sound-read f g = λ y a b n q. of-area y (Step.dataOf y) (data-area y n) q (λ p fs u v w. rw (same-name fs y x none a b (f fs w)) (g p u v))
@@ -89,6 +103,10 @@ module _ (chain program faults : List ℕ) (l : Location) (c : Ccw) (k : Read) (
           → ReadsBytes chain program faults l c k x bs e st r after
       unfolding Step.carry Step.planTransfer Step.transferred Step.struck
       faulted-read z f g = λ y a b n q. of-area y (Step.dataOf y) (data-area y n) q (λ p fs u v w. rw (same-name fs y x (some (faultFrom z)) a b (f fs w)) (g y a b p u v))
+
+  pub faultless-read : (k .datas && eqb (x .body) (x .next)) ≡ false → x .body ≤ x .next → FaultTaken faults k x NoFault
+      → Ends chain program l c (length bs) st (Step.settled bs e st) r after → ReadsBytes chain program faults l c k x bs e st r after
+  faultless-read s i f g = split (k .datas) (λ h. sound-read h (not-empty k x h s) i (f h) g) (λ h. count-read h g)
 
 -- ---- by what the drive takes
 
@@ -106,7 +124,7 @@ module _ (chain program faults image : List ℕ) (l : Location) (c : Ccw) (k : R
 
 -- ---- the home address
 
-abbrev homeBytes : Abstract.Drive → List ℕ
+abbrev pub homeBytes : Abstract.Drive → List ℕ
 homeBytes d = 0 ∷ d .at .cylinder / 256 ∷ d .at .cylinder % 256 ∷ d .at .head / 256 ∷ d .at .head % 256 ∷ []
 
 module _ (chain program image : List ℕ) (l : Location) (c : Ccw) (d : Abstract.Drive) (st : List ℕ) (r : Answer) where

@@ -12,8 +12,10 @@ use Rattle.pack.specs.declared.RecordAt.the-variants.{Located}
 use Rattle.pack.specs.Places.{recordAt, Within}
 use Rattle.image.specs.Image.{wellFormed}
 use Rattle.faults.specs.declared.Listed.{Listed}
+use Rattle.faults.specs.declared.FaultAt.{FaultAt}
+use Rattle.faults.specs.declared.FaultAt.the-variants.{Found, NoFault}
 use Rattle.faults.specs.Faults.{Fault, faultsAt, naming, soundFaults}
-use Rattle.faults.specs.FaultAt.{faultFrom}
+use Rattle.faults.specs.FaultAt.{faultFrom, FaultFound}
 use Rattle.channel.specs.declared.Ccw.{Ccw}
 use Rattle.channel.specs.declared.Location.{Location}
 use Rattle.channel.specs.Ccw.{Lent}
@@ -100,6 +102,11 @@ pub record Lies (image : List ℕ) (x : Place) : Type 0 where
   pub within : Within image x
   pub found : (at : ℕ) × (recordAt image at ≡ Located x)
   pub belongs : Belongs image x
+
+-- the fault of the data area that a read takes, if it takes one that has a fault
+abbrev pub FaultTaken : List ℕ → Read → Place → FaultAt → Type 0
+FaultTaken faults k x (Found f) = (k .datas ≡ true) × FaultFound faults 0 (x .at) (x .r) (Found f)
+FaultTaken faults k x NoFault = k .datas ≡ true → FaultFound faults 0 (x .at) (x .r) NoFault
 
 -- a fault that names the record lies in the n bytes of a read that takes its data
 abbrev pub FaultsInside : List ℕ → Read → Place → ℕ → Type 0

@@ -13,8 +13,9 @@ use pack::Place;
 use position::Drive;
 use position::Taken;
 ghost use mathlib.Core.Path.{_≡_};
-ghost use mathlib.Core.Bool.{true};
+ghost use mathlib.Core.Bool.{true, _&&_};
 ghost use Prim.Native.Nat.{_≤_};
+ghost use lib.Dec.{eqb};
 ghost use lib.ListN.{length, take};
 ghost use Rattle.address.specs.Order.{lastCylinder};
 ghost use Rattle.image.specs.Image.{wellFormed};
@@ -25,11 +26,11 @@ ghost use Rattle.drive.specs.Command.{commandOf};
 ghost use Rattle.drive.specs.Step as Step;
 ghost use Rattle.position.specs.Standing.{driveOf, Standing};
 ghost use Rattle.command.specs.Answer.{Low, Kept, KeptWith, KeptAlways};
-ghost use Rattle.execute.specs.Executes.{Begun, Steps, Executes, InArea, Unchecked, Performs, Ready, Lies, FaultsInside, Ends, Carries, Struck, ReadsBytes, planOf, recordPlan, Homes};
+ghost use Rattle.execute.specs.Executes.{Begun, Steps, Executes, InArea, Unchecked, Performs, Ready, Lies, FaultTaken, FaultsInside, Ends, Carries, Struck, ReadsBytes, planOf, recordPlan, Homes};
 
 // ---- reads, once their bytes are known
 
-// A read without fault, with the drive behind it.
+// A read without fault, with the drive behind it. It has one caller, so that the compiler builds it in there.
 fn plain(
     chain: &[u8],
     program: &[u8],
@@ -106,6 +107,27 @@ fn struck(
 
 // ---- read commands
 
+// Whether a read takes a data area of length 0.
+fn takes_empty(k: Read, x: Place) -> bool
+    ensures { λ r. ⌜ r ≡ (k .datas && eqb (x .body) (x .next)) ⌝ }
+{
+    if !k.datas {
+        return false;
+    }
+    x.body == x.next
+}
+
+// The fault of the data area that a read takes.
+fn fault_taken(faults: &[u8], k: Read, x: Place) -> FaultAt
+    ensures { λ r. ⌜ FaultTaken (now (faults .entry)) k x r ⌝ }
+{
+    if !k.datas {
+        return FaultAt::NoFault;
+    }
+    let a = x.at;
+    faults::find_fault(faults, 0, a, x.r)
+}
+
 // A read of the record at a place, whose bytes these are, with the drive behind it.
 fn read_bytes(
     chain: &[u8],
@@ -126,14 +148,10 @@ fn read_bytes(
     ensures { λ r. ⌜ ReadsBytes (now (chain .entry)) (now (program .entry)) (now (faults .entry)) l c k x (now (bytes .entry)) (driveOf e) (now (storage .entry)) r (now (storage .exit)) ⌝ }
     ensures { λ r. ⌜ KeptWith e r ⌝ }
 {
-    if !k.datas {
-        return plain(chain, program, l, c, bytes, e, storage);
-    }
-    if x.body == x.next {
+    if takes_empty(k, x) {
         return empty(chain, program, l, c, bytes, e, storage);
     }
-    let a = x.at;
-    match faults::find_fault(faults, 0, a, x.r) {
+    match fault_taken(faults, k, x) {
         FaultAt::NoFault => plain(chain, program, l, c, bytes, e, storage),
         FaultAt::Found(f) => struck(chain, program, l, c, bytes, x, f, e, storage),
     }
@@ -228,7 +246,8 @@ fn read_home(
         (a.head / 256) as u8,
         (a.head % 256) as u8,
     ];
-    plain(chain, program, l, c, &bytes, d.at_index(image), storage)
+    let moved = transfer::transfer(chain, program, l, c, &bytes, storage);
+    settle::settled(moved, d.at_index(image))
 }
 
 // ---- any command

@@ -3,12 +3,14 @@
 --   ended                                  where none is found, the track ends
 --   behindOf, steps                        the drive behind such a record
 --   first-none, second-none, second-seen   the record behind R0
---   ahead-first, ahead-last, ahead-next    the next one other than R0
+--   here-read                              the one where the drive stands
+--   ahead-second, ahead-next               the next one other than R0
 use Prim.Native.Nat.{ℕ, suc, _+_, _-_, _<_, _≤_}
 use native.Mathlib.Omega.{arith}
 use native.Mathlib.Numerals.{add-one}
 use mathlib.Core.Path.{_≡_, refl, ap, sym, _∙_}
 use mathlib.Core.Bool.{Bool}
+use mathlib.Core.Logic.{⊎-elim, inr}
 use mathlib.Core.List.{List, [], _∷_}
 use lib.Dec.{ltb}
 use lib.ListN.{length, getD, drop, length-drop, drop-of-length-le}
@@ -17,9 +19,10 @@ use borrow.Author.Tests.{ltb-true, ltb-false, lt-ltb, le-ltb, ne-eqb}
 use Rattle.base.specs.Choice.{pick}
 use Rattle.base.proofs.Choice.{split}
 use Rattle.pack.specs.declared.Place.{Place}
+use Rattle.pack.specs.declared.RecordAt.{RecordAt}
 use Rattle.pack.specs.declared.RecordAt.the-variants.{Located, NoRecord}
 use Rattle.pack.specs.Pack.{Record, Track, Decoded, ledByRecord}
-use Rattle.pack.specs.Places.{recordAt, recordFrom, Within}
+use Rattle.pack.specs.Places.{recordAt, recordFrom, Within, Bounded}
 use Rattle.pack.proofs.Decode.{record-bounds}
 use Rattle.pack.proofs.Lookup.{next-record, no-record}
 use Rattle.drive.specs.Drive.{turn, pastZero, noRecord}
@@ -28,7 +31,7 @@ use Rattle.position.specs.declared.Spot.{Spot}
 use Rattle.position.specs.declared.Sighted.{Sighted}
 use Rattle.position.specs.declared.Sighted.the-variants.{Seen, Unseen}
 use Rattle.position.specs.Standing.{StandsAt, OnTrack, Standing}
-use Rattle.position.specs.Spots.{Spotted, Spots, Second, Ahead}
+use Rattle.position.specs.Spots.{Spotted, Spots, Second, Here, Ahead}
 
 -- ---- lists from a place on
 
@@ -150,11 +153,18 @@ module _ (image : List ℕ) (d : Drive) where
         by (Seen x) s = λ t o. let g = s t o in (g .0, g .1 ∙ sym (e t o))
         by Unseen s = λ t o. rw (e t o) (s t o)
 
-    pub ahead-first : d .next ≡ 0 → Ahead image d r
+    ahead-first : d .next ≡ 0 → Ahead image d r
     ahead-first e = as-second (λ t _. before-zero (length (t .records)) (d .next) e)
 
-    pub ahead-last : recordAt image (d .here) ≡ NoRecord → Ahead image d r
+    ahead-last : recordAt image (d .here) ≡ NoRecord → Ahead image d r
     ahead-last h = as-second (λ t o. past-last (length (t .records)) (d .next) (ended image t (d .next) (d .here) (o .ahead) h))
+
+    pub ahead-second : Here image d NoRecord → Ahead image d r
+    ahead-second h = ⊎-elim ahead-first ahead-last h
+
+  pub here-read : (r : RecordAt) → (d .next ≡ 0 → ⊥) → r ≡ recordAt image (d .here) → Bounded image r → Here image d r
+  here-read (Located p) n e w = (n, sym e, w)
+  here-read NoRecord n e w = inr (sym e)
 
   pub ahead-next : (p : Place) → (d .next ≡ 0 → ⊥) → recordAt image (d .here) ≡ Located p → Within image p → Ahead image d (Seen (spotAt (d .next) (d .here) p))
   unfolding turn pastZero pick

@@ -6,7 +6,7 @@
 --   just-spot      where that record stands
 --   just-there     it is always there
 --   belongs        a record that was sighted is one of the track
---   not-just, not-passed, as-just      by what the code tests
+--   as-just        by what the code tests
 use Prim.Native.Nat.{ℕ, _-_, _<_, _≤_}
 use native.Mathlib.Omega.{arith}
 use mathlib.Core.Path.{_≡_, sym, _∙_}
@@ -80,13 +80,6 @@ pub belongs : (image : List ℕ) (d : Drive) (t : Track) → OnTrack image d t �
 belongs image d t o x s = record { address = d .at; track = t; place = x .place; there = o .there; inside = s .inside; is = s .is }
 
 -- ---- by what the code tests
-
-module _ (just passed : Bool) where
-  pub not-just : just ≡ false → (just && passed) ≡ false
-  not-just e = rw e
-
-  pub not-passed : just ≡ true → passed ≡ false → (just && passed) ≡ false
-  not-passed e f = rw (e, f)
 
 pub as-just : (image : List ℕ) (d : Drive) (just datas : Bool) (r : Taken) → just ≡ true → TakesFor image d true datas r → TakesFor image d just datas r
 as-just image d just datas r e h = λ l c st p k j f. h l c st p k (j ∙ e) f

@@ -2,6 +2,7 @@
 use Prim.Native.Nat.{ℕ, _+_, _<_, _≤_}
 use mathlib.Core.Path.{_≡_}
 use mathlib.Core.Bool.{Bool, true, _&&_}
+use mathlib.Core.Logic.{_⊎_}
 use mathlib.Core.List.{List}
 use lib.Dec.{eqb}
 use lib.ListN.{length, getD, drop}
@@ -9,7 +10,8 @@ use Rattle.base.specs.Choice.{pick}
 use Rattle.address.specs.declared.Address.{Address}
 use Rattle.address.specs.Order.{same}
 use Rattle.pack.specs.declared.Place.{Place}
-use Rattle.pack.specs.declared.RecordAt.the-variants.{Located}
+use Rattle.pack.specs.declared.RecordAt.{RecordAt}
+use Rattle.pack.specs.declared.RecordAt.the-variants.{Located, NoRecord}
 use Rattle.pack.specs.Pack.{Track, packOf}
 use Rattle.pack.specs.Places.{recordAt, recordFrom, Within}
 use Rattle.channel.specs.declared.Ccw.{Ccw}
@@ -69,6 +71,11 @@ At image d n Unseen = (t : Track) → OnTrack image d t → length (t .records) 
 -- the record behind R0
 abbrev pub Second : List ℕ → Drive → Sighted → Type 0
 Second image d r = At image d (λ t. 1) r
+
+-- the record where the drive stands, unless it is R0
+abbrev pub Here : List ℕ → Drive → RecordAt → Type 0
+Here image d (Located p) = (d .next ≡ 0 → ⊥) × (recordAt image (d .here) ≡ Located p) × Within image p
+Here image d NoRecord = (d .next ≡ 0) ⊎ (recordAt image (d .here) ≡ NoRecord)
 
 -- the next record other than R0
 abbrev pub Ahead : List ℕ → Drive → Sighted → Type 0

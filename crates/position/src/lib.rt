@@ -14,19 +14,19 @@ ghost use Rattle.pack.specs.Places.{recordAt};
 ghost use Rattle.drive.specs.declared.FileMask.the-variants as Masks;
 ghost use Rattle.drive.specs.Drive as Abstract;
 ghost use Rattle.position.specs.Standing.{driveOf, Sound, Standing, Examines, ExaminedStands, TakesFor, TakenStands};
-ghost use Rattle.position.specs.Spots.{Spots, Comes, Second, Ahead};
+ghost use Rattle.position.specs.Spots.{Spots, Comes, Second, Here, Ahead};
 
 // `found` says whether the image has the track. Then its records begin at `records`, the count area that comes next has place
 // `next` on the track and stands at `here`, and the one that was just passed stands at `behind`.
 pub struct Drive {
     pub at: Address,
-    pub found: bool,
     pub records: usize,
     pub next: usize,
     pub here: usize,
     pub behind: usize,
-    pub passed: bool,
     pub passes: usize,
+    pub found: bool,
+    pub passed: bool,
     pub mask: FileMask,
 }
 
@@ -296,17 +296,25 @@ impl Drive {
         })
     }
 
+    // The record where the drive stands, unless it is R0.
+    fn here_unless_zero(self, image: &[u8]) -> RecordAt
+        ensures { λ r. ⌜ Here (now (image .entry)) self r ⌝ }
+    {
+        if self.next == 0 {
+            return RecordAt::NoRecord;
+        }
+        let here = self.here;
+        pack::record_at(image, here)
+    }
+
     // The next record other than R0.
     fn ahead(self, image: &[u8]) -> Sighted
         ensures { λ r. ⌜ Ahead (now (image .entry)) self r ⌝ }
     {
-        if self.next == 0 {
-            return self.second(image);
-        }
-        let here = self.here;
-        let RecordAt::Located(p) = pack::record_at(image, here) else {
+        let RecordAt::Located(p) = self.here_unless_zero(image) else {
             return self.second(image);
         };
+        let here = self.here;
         Sighted::Seen(Spot {
             place: self.next,
             start: here,
@@ -349,6 +357,16 @@ impl Drive {
         Taken::Takes(p, self.stepped(image, x, !datas, 0))
     }
 
+    // Whether a read takes the record whose count area was just passed.
+    fn takes_passed(self, just: bool) -> bool
+        ensures { λ r. ⌜ r ≡ (just && self .passed) ⌝ }
+    {
+        if !just {
+            return false;
+        }
+        self.passed
+    }
+
     // One read: `just` of 06 and 0E, which take the record whose count area was just passed; `datas` of reads that take the data,
     // behind which no count area was just passed.
     pub fn take(self, image: &[u8], just: bool, datas: bool) -> Taken
@@ -359,10 +377,7 @@ impl Drive {
         if !self.found {
             return Taken::Nothing;
         }
-        if !just {
-            return self.take_ahead(image, just, datas);
-        }
-        if self.passed {
+        if self.takes_passed(just) {
             return self.take_passed(image, datas);
         }
         self.take_ahead(image, just, datas)

@@ -29,6 +29,12 @@ pub fn changed(
     (name, run)
 }
 
+/// Changes one CCW of a chain in one way, or two.
+pub fn changed_ccw(random: &mut Random, turn: usize, ccws: &mut [u8]) {
+    let (_, change) = CCWS[turn % CCWS.len()];
+    change(random, ccws);
+}
+
 /// Changes the restart's program in one way, or its arguments.
 pub fn changed_restart(
     random: &mut Random,

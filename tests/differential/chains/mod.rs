@@ -2,6 +2,7 @@
 //! plan, and restarts.
 
 mod change;
+mod cut;
 mod ground;
 mod plan;
 mod restart;
@@ -13,7 +14,10 @@ use crate::random::Random;
 use crate::simulator::channel::Restart;
 use crate::simulator::run::{run_restarted_watched, run_watched, Lent, Outcome, Watch};
 use crate::simulator::{Refusal, LAST_CYLINDER};
+pub use change::changed_ccw;
+pub use cut::{cut, cut_again, cut_long};
 use ground::Ground;
+pub use plan::planned;
 pub use scatter::COMMANDS;
 
 impl GeneratedRun {

@@ -1,7 +1,9 @@
 //! One input given to library and simulator.
 
+mod recovery;
 mod run;
 
+use crate::arena::Arena;
 use crate::library;
 use crate::simulator::areas::{check_restart, check_run, RunSizes};
 use crate::simulator::{answer, check_extent, check_faults, check_image, Refusal, LAST_CYLINDER};
@@ -186,6 +188,27 @@ fn describe(
     text += &format!("  simulator {simulator}\n  library   {library}");
     if let Some(name) = changed {
         text += &format!("\n  the call changed the lent {name}");
+    }
+    text
+}
+
+/// The areas that simulator and library left otherwise than each other, a line for each.
+fn differences<const AREAS: usize>(
+    names: &[&str; AREAS],
+    by_simulator: &Arena<AREAS>,
+    by_library: &Arena<AREAS>,
+) -> String {
+    let mut text = String::new();
+    let areas = by_simulator.areas().into_iter().zip(by_library.areas());
+    for (name, (simulator, library)) in names.iter().zip(areas) {
+        if simulator != library {
+            let [simulator, library] = [simulator, library].map(Hexadecimal);
+            text += &format!("\n  {name} left by the simulator {simulator}");
+            text += &format!("\n  {name} left by the library   {library}");
+        }
+    }
+    if text.is_empty() && by_simulator != by_library {
+        text += "\n  the call changed bytes outside the areas";
     }
     text
 }

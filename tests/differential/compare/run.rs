@@ -1,6 +1,6 @@
 //! One run given to library and simulator.
 
-use super::{Comparison, Disagreement, Hexadecimal};
+use super::{differences, Comparison, Disagreement, Hexadecimal};
 use crate::arena::Arena;
 use crate::chains::{GeneratedRestart, GeneratedRun};
 use crate::library::{self, RestartAreas, RunAreas, ANSWER, ENDED, LIMIT};
@@ -164,18 +164,5 @@ fn describe(
     }
     text += &format!("  simulator {}\n", by_simulator.number);
     text += &format!("  library   {}", by_library.number);
-    let areas = by_simulator.arena.areas().into_iter();
-    let mut guards_alone = by_simulator.arena != by_library.arena;
-    for (name, (simulator, library)) in NAMES.iter().zip(areas.zip(by_library.arena.areas())) {
-        if simulator != library {
-            guards_alone = false;
-            let [simulator, library] = [simulator, library].map(Hexadecimal);
-            text += &format!("\n  {name} left by the simulator {simulator}");
-            text += &format!("\n  {name} left by the library   {library}");
-        }
-    }
-    if guards_alone {
-        text += "\n  the call changed bytes outside the areas";
-    }
-    text
+    text + &differences(&NAMES, &by_simulator.arena, &by_library.arena)
 }

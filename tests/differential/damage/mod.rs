@@ -3,10 +3,12 @@
 mod extent;
 mod faults;
 mod image;
+mod report;
 
 pub use extent::damaged_extent;
 pub use faults::damaged_faults;
 pub use image::damaged_image;
+pub use report::damaged_report;
 
 use crate::generate::{written, Draft, DraftField};
 use crate::random::Random;

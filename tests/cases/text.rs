@@ -1,0 +1,134 @@
+//! How cases are written; the words are said where a `Draft` is.
+//!
+//! A statement is a word at the start of a line and its values, which may go on in indented lines
+//! below. `#` begins a comment. Bytes are written in hexadecimal with blanks anywhere between
+//! them; `00*16` is sixteen of them. Other numbers are decimal, CCW addresses hexadecimal. `case`
+//! and a name begin a case: what stands above the first is lent in every case of the text.
+
+/// A case of which some is said; at first, what holds where nothing is said.
+pub trait Draft: Clone + Default {
+    type Case;
+
+    /// The words of which each case has one.
+    const ANSWERS: &'static [&'static str];
+    /// The words that may be said again.
+    const REPEATED: &'static [&'static str];
+
+    fn take(&mut self, statement: &Statement) -> Result<(), String>;
+
+    fn case(self, name: String) -> Self::Case;
+}
+
+/// The cases of a text, or what is wrong with it.
+pub fn read<D: Draft>(text: &str) -> Result<Vec<D::Case>, String> {
+    let statements = statements(text)?;
+    let first_case = statements
+        .iter()
+        .position(|statement| statement.word == "case");
+    let (common, own) = statements.split_at(first_case.unwrap_or(statements.len()));
+    let shared = taken(D::default(), common)?;
+    own.chunk_by(|_, next| next.word != "case")
+        .map(|of_case| {
+            let (case, said) = of_case.split_first().expect("chunks are not empty");
+            let name = case.values.join(" ");
+            let draft = taken(shared.clone(), said)?;
+            let answers = said
+                .iter()
+                .filter(|statement| D::ANSWERS.contains(&statement.word));
+            if answers.count() != 1 {
+                return Err(format!("{name}: one answer is wanted"));
+            }
+            Ok(draft.case(name))
+        })
+        .collect()
+}
+
+fn taken<D: Draft>(mut draft: D, statements: &[Statement]) -> Result<D, String> {
+    for (at, statement) in statements.iter().enumerate() {
+        let said_before = |before: &Statement| before.word == statement.word;
+        if !D::REPEATED.contains(&statement.word) && statements[..at].iter().any(said_before) {
+            return Err(statement.error("said twice"));
+        }
+        draft.take(statement)?;
+    }
+    Ok(draft)
+}
+
+pub struct Statement<'t> {
+    line: usize,
+    pub word: &'t str,
+    pub values: Vec<&'t str>,
+}
+
+fn statements(text: &str) -> Result<Vec<Statement<'_>>, String> {
+    let mut statements: Vec<Statement> = Vec::new();
+    for (at, line) in text.lines().enumerate() {
+        let said = line.split('#').next().unwrap_or("");
+        let mut values = said.split_whitespace();
+        if said.starts_with(char::is_whitespace) {
+            match statements.last_mut() {
+                Some(statement) => statement.values.extend(values),
+                None if values.next().is_none() => (),
+                None => return Err(format!("line {}: no statement goes on here", at + 1)),
+            }
+        } else if let Some(word) = values.next() {
+            statements.push(Statement {
+                line: at + 1,
+                word,
+                values: values.collect(),
+            });
+        }
+    }
+    Ok(statements)
+}
+
+impl Statement<'_> {
+    pub fn error(&self, what: &str) -> String {
+        format!("line {}, {}: {what}", self.line, self.word)
+    }
+
+    pub fn bytes(&self) -> Result<Vec<u8>, String> {
+        let mut bytes = Vec::new();
+        for value in &self.values {
+            let (digits, times) = value.split_once('*').unwrap_or((value, "1"));
+            let once = hexadecimal(digits);
+            let (Some(once), Ok(times)) = (once, times.parse()) else {
+                return Err(self.error(&format!("{value} is not bytes")));
+            };
+            bytes.extend(once.repeat(times));
+        }
+        Ok(bytes)
+    }
+
+    pub fn bytes_of<const LENGTH: usize>(&self) -> Result<[u8; LENGTH], String> {
+        let bytes = self.bytes()?;
+        let length = bytes.len();
+        bytes
+            .try_into()
+            .map_err(|_| self.error(&format!("{length} bytes instead of {LENGTH}")))
+    }
+
+    pub fn number(&self) -> Result<usize, String> {
+        match self.values[..] {
+            [value] => value.parse().map_err(|_| self.error("no decimal number")),
+            _ => Err(self.error("one number is wanted")),
+        }
+    }
+
+    /// The seven bytes behind the first one, 00.
+    pub fn csw(&self) -> Result<[u8; 8], String> {
+        let mut csw = [0; 8];
+        csw[1..].copy_from_slice(&self.bytes_of::<7>()?);
+        Ok(csw)
+    }
+}
+
+/// Pairs of hexadecimal digits.
+fn hexadecimal(digits: &str) -> Option<Vec<u8>> {
+    let digits: Option<Vec<u8>> = digits
+        .chars()
+        .map(|digit| digit.to_digit(16).map(|digit| digit as u8))
+        .collect();
+    let pairs = digits.filter(|digits| digits.len() % 2 == 0)?;
+    Some(pairs.chunks(2).map(|pair| pair[0] << 4 | pair[1]).collect())
+}

@@ -1,0 +1,154 @@
+//! One recovery given to library and simulator.
+
+use super::{differences, Comparison, Disagreement, Hexadecimal};
+use crate::arena::Arena;
+use crate::library::{self, RecoveryAreas, RestartAreas, RECOVERY_ANSWER};
+use crate::random::Random;
+use crate::recovery_marks::{marks_of, RecoveryMark};
+use crate::reports::GeneratedRecovery;
+use crate::simulator::recovery::{recover, Answer, Areas, Lent, RestartAction};
+use crate::simulator::LAST_CYLINDER;
+use crate::tally::RECOVER;
+
+/// The areas of a recovery, in the order in which they are held here.
+const NAMES: [&str; 7] = [
+    "chain",
+    "report",
+    "extent",
+    "storage",
+    "restart program",
+    "restart arguments",
+    "answer",
+];
+
+type RecoveryArena = Arena<7>;
+
+/// What a call answered, and all bytes as it left them.
+struct Left {
+    number: u8,
+    arena: RecoveryArena,
+}
+
+impl Comparison {
+    /// Compares the answer, all areas and the bytes around them.
+    pub fn recovery(
+        &mut self,
+        kind: &'static str,
+        recovery: &GeneratedRecovery,
+    ) -> Result<(), Disagreement> {
+        let lent = lend(&mut Random::new(self.tally.compared), recovery);
+        let by_library = by_library(lent.clone());
+        let by_simulator = self.recovered_by_simulator(recovery, lent.clone());
+        if by_library.number != by_simulator.number || by_library.arena != by_simulator.arena {
+            let before = self.tally.compared;
+            let head = format!(
+                "{}, {kind}: disagreement after {before} inputs\n",
+                RECOVER.name
+            );
+            let text = head + &describe(&lent, &by_simulator, &by_library);
+            return Err(Disagreement(text));
+        }
+        self.tally.count(RECOVER, kind, by_simulator.number);
+        Ok(())
+    }
+
+    fn recovered_by_simulator(
+        &mut self,
+        recovery: &GeneratedRecovery,
+        mut arena: RecoveryArena,
+    ) -> Left {
+        let [chain, report, extent, storage, program, restart_arguments, answer] = arena.lent();
+        if answer.len() != RECOVERY_ANSWER {
+            let mark = RecoveryMark::AnswerArea(answer.len());
+            self.tally.count_recovery_marks([mark]);
+            return Left { number: 1, arena };
+        }
+        let lent = Lent {
+            chain,
+            report,
+            extent,
+        };
+        let areas = Areas {
+            storage,
+            program,
+            restart_arguments,
+        };
+        let recovered = recover(lent, areas, LAST_CYLINDER);
+        let storage_changed = storage != recovery.storage;
+        let marks = marks_of(recovery, &recovered, storage_changed);
+        self.tally.count_recovery_marks(marks);
+        let number = match recovered {
+            Ok(recovered) => {
+                answer.copy_from_slice(&written(&recovered.answer));
+                library::ANSWERED
+            }
+            Err(refusal) => refusal.number(),
+        };
+        Left { number, arena }
+    }
+}
+
+fn lend(random: &mut Random, recovery: &GeneratedRecovery) -> RecoveryArena {
+    let answer = random.bytes(recovery.answer_length);
+    let areas = [
+        &recovery.chain[..],
+        &recovery.report,
+        &recovery.extent,
+        &recovery.storage,
+        &recovery.program,
+        &recovery.restart_arguments,
+        &answer,
+    ];
+    Arena::new(random, areas)
+}
+
+fn by_library(mut arena: RecoveryArena) -> Left {
+    let [chain, report, extent, storage, program, arguments, answer] = arena.lent();
+    let areas = RecoveryAreas {
+        chain,
+        report,
+        extent,
+        storage,
+        restart: RestartAreas { program, arguments },
+    };
+    let number = library::recover(areas, answer);
+    Left { number, arena }
+}
+
+/// An answer as the library writes it.
+fn written(answer: &Answer) -> [u8; RECOVERY_ANSWER] {
+    let (first, action) = match answer {
+        Answer::Action1 => (library::ACTION_1, 0),
+        Answer::Action2 | Answer::NotBuilt(..) => (library::ACTION_2, 0),
+        Answer::Repeat => (library::REPEAT, 0),
+        Answer::CorrectedOnly => (library::CORRECTED_ONLY, 0x05),
+        Answer::Finished(_) => (library::FINISHED, 0x05),
+        Answer::Restart(action) => (library::RESTART, written_action(*action)),
+    };
+    let mut bytes = [0; RECOVERY_ANSWER];
+    bytes[..2].copy_from_slice(&[first, action]);
+    if let Answer::Finished(csw) = answer {
+        bytes[2..].copy_from_slice(csw);
+    }
+    bytes
+}
+
+fn written_action(action: RestartAction) -> u8 {
+    match action {
+        RestartAction::Five => 0x05,
+        RestartAction::FiveA => 0x15,
+        RestartAction::Eight => 0x08,
+        RestartAction::Ten => 0x0A,
+        RestartAction::TenA => 0x1A,
+    }
+}
+
+fn describe(lent: &RecoveryArena, by_simulator: &Left, by_library: &Left) -> String {
+    let mut text = String::new();
+    for (name, area) in NAMES.iter().zip(lent.areas()) {
+        text += &format!("  {name} {}\n", Hexadecimal(area));
+    }
+    text += &format!("  simulator {}\n", by_simulator.number);
+    text += &format!("  library   {}", by_library.number);
+    text + &differences(&NAMES, &by_simulator.arena, &by_library.arena)
+}

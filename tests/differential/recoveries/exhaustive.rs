@@ -1,0 +1,231 @@
+//! Small recoveries of which every one of a kind is tried.
+
+use crate::compare::{Comparison, Disagreement};
+use crate::exhaustive::each_byte_at_each_value;
+use crate::reports::{GeneratedRecovery, ANSWER};
+use crate::simulator::encode;
+use crate::simulator::large::track_at;
+use crate::simulator::pack::LAST_HEAD;
+use crate::simulator::report::Report;
+use crate::simulator::table::TABLE;
+use crate::simulator::{sample, LAST_CYLINDER};
+use std::collections::BTreeSet;
+
+pub fn compare_all(comparison: &mut Comparison) -> Result<(), Disagreement> {
+    for base in [
+        recovery(&sample_report(), &sample::EXTENT),
+        recovery(&sent_to([0, 0x20, 0], 0x20), &WHOLE_PACK),
+        recovery(&sent_to([0, 0x04, 0], 0x08), &WHOLE_PACK),
+        recovery(&sent_to([0, 0x04, 0], 0x20), &WHOLE_PACK),
+    ] {
+        each_byte(comparison, &base)?;
+        each_length(comparison, &base)?;
+    }
+    each_combination(comparison)?;
+    each_mask(comparison)?;
+    each_tries(comparison)?;
+    each_track(comparison)?;
+    each_command_behind(comparison)?;
+    each_place(comparison)
+}
+
+const WHOLE_PACK: [u8; 8] = [0, 0, 0, 0, 1, 0x9A, 0, 18];
+
+/// Of the sample's cut, with a mask and a seek argument besides.
+fn sample_report() -> Report {
+    let mut sense = [0; 24];
+    sense[..8].copy_from_slice(&[0x08, 0, 0x40, 0, 0, 0, 0, 0x53]);
+    sense[8..14].copy_from_slice(&[0, 0, 0, 1, 1, 5]);
+    sense[15..23].copy_from_slice(&[0, 0, 4, 0, 3, 1, 2, 4]);
+    Report {
+        sense,
+        csw: [0, 0, 0, 0x20, 0x0E, 0, 0, 0],
+        first: 0x18,
+        mask: Some(0xC0),
+        seek_argument: Some([0, 0, 0, 0, 0, 1]),
+        tries: 9,
+    }
+}
+
+/// The same with other sense bytes 0 to 2 and another CSW address.
+fn sent_to(front: [u8; 3], address: u8) -> Report {
+    let mut report = sample_report();
+    report.sense[..3].copy_from_slice(&front);
+    report.csw[3] = address;
+    report
+}
+
+fn recovery(report: &Report, extent: &[u8]) -> GeneratedRecovery {
+    GeneratedRecovery {
+        chain: sample::CHAIN.to_vec(),
+        report: encode::report(report),
+        extent: extent.to_vec(),
+        storage: vec![0xEE; 16],
+        program: vec![0x5A; 64],
+        restart_arguments: vec![0x5A; 16],
+        answer_length: ANSWER,
+    }
+}
+
+/// Each byte of each area that is only read at each value.
+fn each_byte(
+    comparison: &mut Comparison,
+    recovery: &GeneratedRecovery,
+) -> Result<(), Disagreement> {
+    type Area = fn(&mut GeneratedRecovery) -> &mut Vec<u8>;
+    let areas: [Area; 3] = [
+        |recovery| &mut recovery.chain,
+        |recovery| &mut recovery.report,
+        |recovery| &mut recovery.extent,
+    ];
+    for area in areas {
+        let mut recovery = recovery.clone();
+        let bytes = area(&mut recovery).clone();
+        for changed in each_byte_at_each_value(&bytes) {
+            *area(&mut recovery) = changed;
+            comparison.recovery("sample, one byte set", &recovery)?;
+        }
+    }
+    Ok(())
+}
+
+/// The report cut at each length, storage too.
+fn each_length(
+    comparison: &mut Comparison,
+    recovery: &GeneratedRecovery,
+) -> Result<(), Disagreement> {
+    for length in 0..=recovery.report.len() {
+        let mut recovery = recovery.clone();
+        recovery.report.truncate(length);
+        comparison.recovery("sample, report cut", &recovery)?;
+    }
+    for length in 0..=recovery.storage.len() {
+        let mut recovery = recovery.clone();
+        recovery.storage.truncate(length);
+        comparison.recovery("sample, storage cut", &recovery)?;
+    }
+    Ok(())
+}
+
+/// Each combination of the bits that are in the table, at tries that differ for actions 3 and 4.
+fn each_combination(comparison: &mut Comparison) -> Result<(), Disagreement> {
+    let bits: BTreeSet<(usize, u8)> = TABLE.iter().flat_map(|row| row.bits).copied().collect();
+    for combination in 0..1_u32 << bits.len() {
+        let mut report = sent_to([0; 3], 0x20);
+        for (place, &(byte, bit)) in bits.iter().enumerate() {
+            if combination & 1 << place != 0 {
+                report.sense[byte] |= 0x80 >> bit;
+            }
+        }
+        for tries in [0, 9, 10] {
+            report.tries = tries;
+            comparison.recovery("each combination of bits", &recovery(&report, &WHOLE_PACK))?;
+        }
+    }
+    Ok(())
+}
+
+/// None, and each mask, for each action that sets one again.
+fn each_mask(comparison: &mut Comparison) -> Result<(), Disagreement> {
+    for mut report in [
+        sample_report(),
+        sent_to([0, 0x20, 0], 0x20),
+        sent_to([0, 0x04, 0], 0x08),
+    ] {
+        for mask in (0..=255).map(Some).chain([None]) {
+            report.mask = mask;
+            comparison.recovery("each mask", &recovery(&report, &WHOLE_PACK))?;
+        }
+    }
+    Ok(())
+}
+
+/// Each number of tries for each row.
+fn each_tries(comparison: &mut Comparison) -> Result<(), Disagreement> {
+    for row in &TABLE {
+        let mut report = sent_to([0; 3], 0x20);
+        for &(byte, bit) in row.bits {
+            report.sense[byte] |= 0x80 >> bit;
+        }
+        for tries in 0..=255 {
+            report.tries = tries;
+            comparison.recovery("each number of tries", &recovery(&report, &WHOLE_PACK))?;
+        }
+    }
+    Ok(())
+}
+
+/// Each track of the pack, and some behind it, in tag 14 and in the sense; every third in an extent
+/// that ends with it.
+fn each_track(comparison: &mut Comparison) -> Result<(), Disagreement> {
+    let heads = usize::from(LAST_HEAD) + 1;
+    for place in 0..(usize::from(LAST_CYLINDER) + 2) * heads {
+        let address = encode::track_address(track_at(place));
+        let mut extent = WHOLE_PACK;
+        if place % 3 == 0 && place < (usize::from(LAST_CYLINDER) + 1) * heads {
+            extent[4..].copy_from_slice(&address);
+        }
+        for mut report in [
+            sample_report(),
+            sent_to([0, 0x20, 0], 0x20),
+            sent_to([0, 0x04, 0], 0x08),
+            sent_to([0, 0x04, 0], 0x20),
+        ] {
+            report.sense[8..12].copy_from_slice(&address);
+            let [c0, c1, h0, h1] = address;
+            report.seek_argument = Some([0, 0, c0, c1, h0, h1]);
+            comparison.recovery("each track", &recovery(&report, &extent))?;
+        }
+    }
+    Ok(())
+}
+
+/// Each command behind the read that was cut, and behind a seek that was interrupted.
+fn each_command_behind(comparison: &mut Comparison) -> Result<(), Disagreement> {
+    for command in 0..=255 {
+        for target in [0x00, 0x10, 0x18, 0x20, 0x24, 0x28] {
+            let mut cut = recovery(&sample_report(), &WHOLE_PACK);
+            cut.chain[0x20] = command;
+            cut.chain[0x23] = target;
+            comparison.recovery("each command behind", &cut)?;
+            let interrupted = sent_to([0, 0x04, 0], 0x08);
+            let mut interrupted = recovery(&interrupted, &WHOLE_PACK);
+            interrupted.chain[0x08] = command;
+            interrupted.chain[0x0B] = target;
+            comparison.recovery("each command behind", &interrupted)?;
+        }
+    }
+    Ok(())
+}
+
+/// Reads of up to 12 bytes by three CCWs that overlap, each error displacement.
+fn each_place(comparison: &mut Comparison) -> Result<(), Disagreement> {
+    let ccws = [
+        (0, [0, 0, 0]),
+        (0, [0, 0x10, 0]),
+        (3, [0, 0, 0x10]),
+        (2, [0x10, 0, 0]),
+    ];
+    for (second, skips) in ccws {
+        let chain = [
+            encode::ccw(0x06, 0, 0x80 | skips[0], 4),
+            encode::ccw(0x06, second, 0x80 | skips[1], 3),
+            encode::ccw(0x06, 1, 0x20 | skips[2], 3),
+        ];
+        for restart in 8..=12 {
+            for error in 0..=restart + 1 {
+                let mut report = sample_report();
+                report.first = 0;
+                report.sense[17] = restart;
+                report.sense[19] = error;
+                let count_left = 10_u8.saturating_sub(restart);
+                report.csw = [0, 0, 0, 0x18, 0x0E, 0, 0, count_left];
+                report.mask = None;
+                let mut recovery = recovery(&report, &WHOLE_PACK);
+                recovery.chain = chain.concat();
+                comparison.recovery("each place of an error", &recovery)?;
+            }
+        }
+    }
+    Ok(())
+}

@@ -1,0 +1,318 @@
+//! Which marks a recovery has.
+
+use super::{AnswerKind, MaskKind, PatternKind, RecoveryEvent, RecoveryMark};
+use crate::reports::GeneratedRecovery;
+use crate::simulator::channel::{CCW_LENGTH, FLAG_CHAIN_COMMAND};
+use crate::simulator::correct::Fate;
+use crate::simulator::cut::CutRead;
+use crate::simulator::drive::LAST_SECTOR;
+use crate::simulator::extent::Extent;
+use crate::simulator::interrupted::next_command;
+use crate::simulator::pack::{TrackAddress, LAST_HEAD};
+use crate::simulator::recovery::{Answer, Recovered, RestartAction};
+use crate::simulator::report::Report;
+use crate::simulator::table::{row_of, Action, TABLE};
+use crate::simulator::{Refusal, LAST_CYLINDER};
+use std::collections::BTreeSet;
+
+/// The marks of a recovery, as it was lent, that the simulator has answered or refused.
+pub fn marks_of(
+    recovery: &GeneratedRecovery,
+    recovered: &Result<Recovered, Refusal>,
+    storage_changed: bool,
+) -> BTreeSet<RecoveryMark> {
+    let mut marks = Marks::default();
+    marks.meet_if(storage_changed, RecoveryEvent::StorageChanged);
+    match recovered {
+        Err(refusal) => marks.refused(recovery, *refusal),
+        Ok(recovered) => {
+            let report = Report::decode(&recovery.report).expect("question 4 was answered yes");
+            marks.answered(recovery, &report, recovered);
+        }
+    }
+    marks.seen
+}
+
+/// Sense of a report, also of one that is not well formed.
+fn sense_of(report: &[u8]) -> Option<&[u8; 24]> {
+    report.strip_prefix(&[0x10, 0, 24])?.first_chunk()
+}
+
+#[derive(Default)]
+struct Marks {
+    seen: BTreeSet<RecoveryMark>,
+}
+
+impl Marks {
+    fn see(&mut self, mark: RecoveryMark) {
+        self.seen.insert(mark);
+    }
+
+    fn meet_if(&mut self, met: bool, event: RecoveryEvent) {
+        if met {
+            self.see(RecoveryMark::Met(event));
+        }
+    }
+
+    fn refused(&mut self, recovery: &GeneratedRecovery, refusal: Refusal) {
+        self.see(RecoveryMark::Refused(refusal));
+        let Some(sense) = sense_of(&recovery.report) else {
+            return;
+        };
+        let (number, row) = (refusal.number(), row_of(sense));
+        let action = row.map(|row| TABLE[row].action);
+        self.see(RecoveryMark::RefusedFor(number, action));
+        if let Some(row) = row.filter(|_| number > 6) {
+            self.see(RecoveryMark::Row(row));
+        }
+    }
+
+    fn answered(&mut self, recovery: &GeneratedRecovery, report: &Report, recovered: &Recovered) {
+        let action = TABLE[recovered.row].action;
+        let kind = kind_of(&recovered.answer);
+        self.see(RecoveryMark::Row(recovered.row));
+        self.see(RecoveryMark::Answered(action, kind));
+        if let Answer::Restart(action) = recovered.answer {
+            self.restarted(report, action);
+        }
+        let tried = |tries| action == Action::Four && report.tries == tries;
+        self.meet_if(tried(10), RecoveryEvent::TenTries);
+        self.meet_if(tried(9), RecoveryEvent::NineTries);
+        if let Some(correction) = &recovered.correction {
+            for (at, fate) in correction.fates.into_iter().enumerate() {
+                self.see(RecoveryMark::Pattern(at, kind_of_fate(fate)));
+            }
+            self.meet_if(is_apart(&correction.fates), RecoveryEvent::PatternApart);
+            self.walked(report, &correction.read);
+            self.ended(recovery, report, &correction.read, kind);
+        }
+    }
+
+    fn restarted(&mut self, report: &Report, action: RestartAction) {
+        let mask = match report.mask {
+            None => MaskKind::NoMask,
+            Some(0) => MaskKind::Zeros,
+            Some(_) => MaskKind::Other,
+        };
+        self.see(RecoveryMark::Masked(action, mask));
+        self.meet_if(
+            report.is_pci_fetch_mode(),
+            RecoveryEvent::PciFetchModeSetAgain,
+        );
+        let head = report.seek_argument.map(|argument| argument[5]);
+        self.meet_if(
+            action == RestartAction::TenA && head == Some(LAST_HEAD as u8),
+            RecoveryEvent::HeadCarried,
+        );
+    }
+
+    fn walked(&mut self, report: &Report, read: &CutRead) {
+        let current_took_none = read.end.count_left == read.end.ccw.count;
+        let ccws = read.stretches.len() + usize::from(current_took_none);
+        let without_tics = report.first + (ccws - 1) * CCW_LENGTH;
+        self.meet_if(ccws > 1, RecoveryEvent::DataChained);
+        self.meet_if(
+            read.end.ccw.at != without_tics,
+            RecoveryEvent::DataChainedByTic,
+        );
+        self.meet_if(
+            read.end.ccw.at < without_tics,
+            RecoveryEvent::DataChainedRound,
+        );
+        self.meet_if(
+            report.restart_displacement() == report.error_displacement(),
+            RecoveryEvent::ErrorAtTheFront,
+        );
+        self.meet_if(read.end.count_left > 0, RecoveryEvent::CountLeft);
+        self.meet_if(read.end.bytes_left_over > 0, RecoveryEvent::BytesLeftOver);
+        self.meet_if(report.sector() == LAST_SECTOR, RecoveryEvent::LastSector);
+    }
+
+    fn ended(
+        &mut self,
+        recovery: &GeneratedRecovery,
+        report: &Report,
+        read: &CutRead,
+        kind: AnswerKind,
+    ) {
+        let length = read.end.is_incorrect_length();
+        let no_cc = !read.end.ccw.has(FLAG_CHAIN_COMMAND);
+        let next = next_command(&recovery.chain, read.end.ccw.behind());
+        let track = TrackAddress::decode(&report.sense[8..12]);
+        let extent = Extent::decode(&recovery.extent, LAST_CYLINDER);
+        let outside = extent.is_ok_and(|extent| !extent.contains(track));
+        match kind {
+            AnswerKind::CorrectedOnly => {
+                self.meet_if(length, RecoveryEvent::CorrectedOnlyWithLength);
+                self.meet_if(no_cc, RecoveryEvent::CorrectedOnlyWithoutCc);
+                self.meet_if(next.is_err(), RecoveryEvent::CorrectedOnlyWithoutNext);
+                self.meet_if(outside, RecoveryEvent::CorrectedOnlyOutsideTheExtent);
+            }
+            AnswerKind::Finished => {
+                self.meet_if(length && !no_cc, RecoveryEvent::FinishedByLength);
+                self.meet_if(no_cc && !length, RecoveryEvent::FinishedWithoutCc);
+                self.meet_if(outside, RecoveryEvent::FinishedOutsideTheExtent);
+            }
+            _ => {
+                let behind = next.is_ok_and(|next| next.at != read.end.ccw.behind());
+                self.meet_if(behind, RecoveryEvent::NextBehindTic);
+            }
+        }
+    }
+}
+
+fn kind_of(answer: &Answer) -> AnswerKind {
+    match *answer {
+        Answer::Action1 => AnswerKind::Action1,
+        Answer::Action2 => AnswerKind::Action2,
+        Answer::NotBuilt(action, why) => AnswerKind::NotBuilt(action, why),
+        Answer::Repeat => AnswerKind::Repeat,
+        Answer::CorrectedOnly => AnswerKind::CorrectedOnly,
+        Answer::Finished(_) => AnswerKind::Finished,
+        Answer::Restart(action) => AnswerKind::Restart(action),
+    }
+}
+
+fn kind_of_fate(fate: Fate) -> PatternKind {
+    match fate {
+        Fate::Stored(_) => PatternKind::Stored,
+        Fate::PastTheDataArea => PatternKind::PastTheDataArea,
+        Fate::PastTheCounts => PatternKind::PastTheCounts,
+        Fate::Skipped => PatternKind::Skipped,
+        Fate::Overwritten => PatternKind::Overwritten,
+    }
+}
+
+fn is_apart(fates: &[Fate; 3]) -> bool {
+    fates.windows(2).any(|pair| match pair {
+        [Fate::Stored(one), Fate::Stored(other)] => one + 1 != *other,
+        _ => false,
+    })
+}
+
+#[cfg(test)]
+mod tests {
+    use super::*;
+    use crate::reports::ANSWER;
+    use crate::simulator::channel::ProgramCheck;
+    use crate::simulator::encode::{self, ccw};
+    use crate::simulator::recovery::{recover, Areas, Lent};
+    use crate::simulator::report::ReportRule;
+    use crate::simulator::sample;
+
+    /// The recovery of the sample's cut.
+    fn sample_recovery() -> (GeneratedRecovery, Report) {
+        let mut sense = [0; 24];
+        sense[..8].copy_from_slice(&[0x08, 0, 0x40, 0, 0, 0, 0, 0x53]);
+        sense[8..13].copy_from_slice(&[0, 0, 0, 1, 1]);
+        sense[17..22].copy_from_slice(&[4, 0, 3, 0, 1]);
+        let report = Report {
+            sense,
+            csw: [0, 0, 0, 0x20, 0x0E, 0, 0, 0],
+            first: 0x18,
+            mask: None,
+            seek_argument: None,
+            tries: 0,
+        };
+        let recovery = GeneratedRecovery {
+            chain: sample::CHAIN.to_vec(),
+            report: encode::report(&report),
+            extent: sample::EXTENT.to_vec(),
+            storage: vec![0; 16],
+            program: vec![0; 64],
+            restart_arguments: vec![0; 16],
+            answer_length: ANSWER,
+        };
+        (recovery, report)
+    }
+
+    fn marks(recovery: &GeneratedRecovery) -> BTreeSet<RecoveryMark> {
+        let mut left = recovery.clone();
+        let lent = Lent {
+            chain: &recovery.chain,
+            report: &recovery.report,
+            extent: &recovery.extent,
+        };
+        let areas = Areas {
+            storage: &mut left.storage,
+            program: &mut left.program,
+            restart_arguments: &mut left.restart_arguments,
+        };
+        let recovered = recover(lent, areas, LAST_CYLINDER);
+        let marks = marks_of(recovery, &recovered, left.storage != recovery.storage);
+        assert!(marks.iter().all(|mark| RecoveryMark::all().contains(mark)));
+        marks
+    }
+
+    #[test]
+    fn marks_of_the_sample() {
+        let five_a = RestartAction::FiveA;
+        let expected = [
+            RecoveryMark::Row(9),
+            RecoveryMark::Answered(Action::Five, AnswerKind::Restart(five_a)),
+            RecoveryMark::Masked(five_a, MaskKind::NoMask),
+            RecoveryMark::Pattern(0, PatternKind::Stored),
+            RecoveryMark::Pattern(1, PatternKind::Stored),
+            RecoveryMark::Pattern(2, PatternKind::Stored),
+            RecoveryMark::Met(RecoveryEvent::StorageChanged),
+        ];
+        assert_eq!(marks(&sample_recovery().0), BTreeSet::from(expected));
+    }
+
+    #[test]
+    fn marks_of_a_refusal() {
+        let (mut recovery, _) = sample_recovery();
+        recovery.chain[0x1C] |= 1;
+        let expected = [
+            RecoveryMark::Row(9),
+            RecoveryMark::Refused(Refusal::Walk(ProgramCheck::LowFlags)),
+            RecoveryMark::RefusedFor(9, Some(Action::Five)),
+        ];
+        assert_eq!(marks(&recovery), BTreeSet::from(expected));
+        recovery.report.push(0);
+        let expected = [
+            RecoveryMark::Refused(Refusal::Report(ReportRule::Torn)),
+            RecoveryMark::RefusedFor(4, Some(Action::Five)),
+        ];
+        assert_eq!(marks(&recovery), BTreeSet::from(expected));
+    }
+
+    #[test]
+    fn events_of_a_data_chain() {
+        let (mut recovery, mut report) = sample_recovery();
+        recovery.chain = [
+            ccw(0x06, 8, 0x80, 2),
+            ccw(0x08, 0x18, 0, 0),
+            ccw(0x03, 0, 0, 1),
+            ccw(0x06, 4, 0x20, 3),
+        ]
+        .concat();
+        report.first = 0;
+        report.csw[7] = 1;
+        report.sense[19] = 4;
+        recovery.report = encode::report(&report);
+        let met: Vec<RecoveryEvent> = (marks(&recovery).into_iter())
+            .filter_map(|mark| match mark {
+                RecoveryMark::Met(event) => Some(event),
+                _ => None,
+            })
+            .collect();
+        let expected = [
+            RecoveryEvent::DataChained,
+            RecoveryEvent::DataChainedByTic,
+            RecoveryEvent::PatternApart,
+            RecoveryEvent::StorageChanged,
+            RecoveryEvent::ErrorAtTheFront,
+            RecoveryEvent::CountLeft,
+            RecoveryEvent::FinishedWithoutCc,
+        ];
+        assert_eq!(met, expected);
+    }
+
+    #[test]
+    fn no_mark_twice() {
+        let all = RecoveryMark::all();
+        let distinct: BTreeSet<RecoveryMark> = all.iter().copied().collect();
+        assert_eq!(all.len(), distinct.len());
+    }
+}

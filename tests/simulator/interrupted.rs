@@ -1,0 +1,222 @@
+//! Question 9 for actions 8, 10 and 10A: the user's seek argument and the CCW that was interrupted.
+
+use super::channel::{Ccw, Channel, Program, CCW_LENGTH, FLAG_CHAIN_COMMAND};
+use super::drive::SEEK;
+use super::pack::{TrackAddress, LAST_HEAD};
+use super::report::Report;
+use super::Refusal;
+
+rules! {
+    /// What does not agree, besides a next CCW that is not there.
+    InterruptedRule {
+        NoSeekArgument,
+        SeekNotZero,
+        SeekOffThePack,
+        NotInTheChain,
+        Tic,
+        SeekWithoutCc,
+    }
+}
+
+#[derive(Clone, Copy, Debug, PartialEq, Eq)]
+pub struct Interrupted {
+    pub ccw: Ccw,
+    /// The user's seek argument.
+    pub track: TrackAddress,
+}
+
+impl Interrupted {
+    /// Asks all that 8, 10 and 10A have in common.
+    pub fn of(chain: &[u8], report: &Report, last_cylinder: u16) -> Result<Interrupted, Refusal> {
+        let track = sought(report, last_cylinder).map_err(Refusal::Interrupted)?;
+        let ccw = interrupted_ccw(chain, report).map_err(Refusal::Interrupted)?;
+        Ok(Interrupted { ccw, track })
+    }
+
+    pub fn is_seek(&self) -> bool {
+        self.ccw.command == SEEK
+    }
+
+    /// What 10 asks besides, of a seek; the next CCW.
+    pub fn next_of_seek(&self, chain: &[u8]) -> Result<Ccw, Refusal> {
+        if !self.ccw.has(FLAG_CHAIN_COMMAND) {
+            return Err(Refusal::Interrupted(InterruptedRule::SeekWithoutCc));
+        }
+        next_command(chain, self.ccw.behind())
+    }
+}
+
+fn sought(report: &Report, last_cylinder: u16) -> Result<TrackAddress, InterruptedRule> {
+    let argument = report.seek_argument;
+    let argument = argument.ok_or(InterruptedRule::NoSeekArgument)?;
+    let (zeros, address) = argument.split_at(2);
+    if zeros != [0, 0] {
+        return Err(InterruptedRule::SeekNotZero);
+    }
+    let track = TrackAddress::decode(address);
+    if !track.on_pack(last_cylinder) {
+        return Err(InterruptedRule::SeekOffThePack);
+    }
+    Ok(track)
+}
+
+fn interrupted_ccw(chain: &[u8], report: &Report) -> Result<Ccw, InterruptedRule> {
+    let at = report.address().checked_sub(CCW_LENGTH);
+    let ccw = at.and_then(|at| channel(chain).fetch_one(at).ok());
+    let ccw = ccw.ok_or(InterruptedRule::NotInTheChain)?;
+    if ccw.is_tic() {
+        return Err(InterruptedRule::Tic);
+    }
+    Ok(ccw)
+}
+
+/// The user's next non-TIC CCW.
+pub fn next_command(chain: &[u8], at: usize) -> Result<Ccw, Refusal> {
+    channel(chain).fetch_unchecked(at).map_err(Refusal::Next)
+}
+
+fn channel(chain: &[u8]) -> Channel<'_> {
+    Channel::new(Program::of_chain(chain), 0)
+}
+
+/// Head 0 of the next cylinder.
+pub fn next_cylinder(track: TrackAddress) -> TrackAddress {
+    TrackAddress {
+        cylinder: track.cylinder + 1,
+        head: 0,
+    }
+}
+
+/// Head 18 carries.
+pub fn next_track(track: TrackAddress) -> TrackAddress {
+    if track.head < LAST_HEAD {
+        TrackAddress {
+            head: track.head + 1,
+            ..track
+        }
+    } else {
+        next_cylinder(track)
+    }
+}
+
+#[cfg(test)]
+mod tests {
+    use super::*;
+    use crate::simulator::channel::ProgramCheck;
+    use crate::simulator::encode::ccw;
+    use crate::simulator::LAST_CYLINDER;
+
+    fn chain() -> Vec<u8> {
+        [
+            ccw(0x07, 0, 0x40, 6),
+            ccw(0x08, 0x18, 0, 0),
+            ccw(0x07, 0, 0, 6),
+            ccw(0x31, 0, 0x07, 0),
+        ]
+        .concat()
+    }
+
+    fn report(address: u8) -> Report {
+        Report {
+            sense: [0; 24],
+            csw: [0, 0, 0, address, 0x0E, 0, 0, 0],
+            first: 0xFFFF,
+            mask: None,
+            seek_argument: Some([0, 0, 1, 0x9A, 0, 18]),
+            tries: 0,
+        }
+    }
+
+    fn interrupted(report: &Report) -> Result<Interrupted, InterruptedRule> {
+        Interrupted::of(&chain(), report, LAST_CYLINDER).map_err(|refusal| match refusal {
+            Refusal::Interrupted(rule) => rule,
+            _ => panic!("another question"),
+        })
+    }
+
+    fn track(cylinder: u16, head: u16) -> TrackAddress {
+        TrackAddress { cylinder, head }
+    }
+
+    #[test]
+    fn ccw_8_below_the_address() {
+        for (address, at, is_seek) in [(8, 0, true), (0x18, 0x10, true), (0x20, 0x18, false)] {
+            let found = interrupted(&report(address)).unwrap();
+            assert_eq!((found.ccw.at, found.is_seek()), (at, is_seek));
+            assert_eq!(found.track, track(410, 18));
+        }
+    }
+
+    #[test]
+    fn not_in_the_chain() {
+        for address in [0, 1, 7, 9, 0x0C, 0x28, 0xFF] {
+            let refused = interrupted(&report(address));
+            assert_eq!(refused, Err(InterruptedRule::NotInTheChain));
+        }
+        let mut far = report(8);
+        far.csw[1] = 1;
+        assert_eq!(interrupted(&far), Err(InterruptedRule::NotInTheChain));
+        assert_eq!(interrupted(&report(0x10)), Err(InterruptedRule::Tic));
+    }
+
+    #[test]
+    fn seek_argument() {
+        let rule = |argument| {
+            let mut report = report(8);
+            report.seek_argument = argument;
+            interrupted(&report).err()
+        };
+        assert_eq!(rule(None), Some(InterruptedRule::NoSeekArgument));
+        for at in 0..2 {
+            let mut argument = [0; 6];
+            argument[at] = 1;
+            assert_eq!(rule(Some(argument)), Some(InterruptedRule::SeekNotZero));
+        }
+        for off in [[1, 0x9B, 0, 0], [0, 0, 0, 19], [0, 0, 1, 0], [2, 0, 0, 0]] {
+            let [c0, c1, h0, h1] = off;
+            let argument = Some([0, 0, c0, c1, h0, h1]);
+            assert_eq!(rule(argument), Some(InterruptedRule::SeekOffThePack));
+        }
+        assert_eq!(rule(Some([0; 6])), None);
+    }
+
+    #[test]
+    fn next_of_a_seek() {
+        let next = |address| {
+            let found = interrupted(&report(address)).unwrap();
+            found.next_of_seek(&chain()).map(|next| next.at)
+        };
+        assert_eq!(next(8), Ok(0x18));
+        let no_cc = Refusal::Interrupted(InterruptedRule::SeekWithoutCc);
+        assert_eq!(next(0x18), Err(no_cc));
+    }
+
+    #[test]
+    fn next_command_through_a_tic() {
+        assert_eq!(next_command(&chain(), 8).map(|next| next.at), Ok(0x18));
+        assert_eq!(next_command(&chain(), 0x10).map(|next| next.at), Ok(0x10));
+        let mut tic_to_tic = chain();
+        tic_to_tic[0x18] = 0xF8;
+        let mut off = chain();
+        off[0x0B] = 0x1C;
+        let mut past = chain();
+        past[0x0B] = 0x20;
+        for (chain, at, check) in [
+            (tic_to_tic, 8, ProgramCheck::TicToTic),
+            (off, 8, ProgramCheck::NotAMultipleOf8),
+            (past, 8, ProgramCheck::PastTheChain),
+            (chain(), 0x20, ProgramCheck::PastTheChain),
+        ] {
+            assert_eq!(next_command(&chain, at), Err(Refusal::Next(check)));
+        }
+    }
+
+    #[test]
+    fn tracks_behind() {
+        assert_eq!(next_cylinder(track(8, 18)), track(9, 0));
+        assert_eq!(next_cylinder(track(410, 0)), track(411, 0));
+        assert_eq!(next_track(track(8, 17)), track(8, 18));
+        assert_eq!(next_track(track(8, 18)), track(9, 0));
+        assert_eq!(next_track(track(410, 18)), track(411, 0));
+    }
+}

@@ -1,0 +1,245 @@
+//! Recovery from one report.
+
+use super::areas::{check_recovery, RecoverySizes};
+use super::channel::{Ccw, FLAG_CHAIN_COMMAND};
+use super::correct::{self, Fate};
+use super::cut::CutRead;
+use super::extent::Extent;
+use super::interrupted::{next_command, next_cylinder, next_track, Interrupted};
+use super::pack::TrackAddress;
+use super::report::Report;
+use super::restart::{self, begins_with_count, BuiltRestart};
+use super::table::{self, Action};
+use super::Refusal;
+
+/// Sense 7 of a data check in a data area.
+pub const DATA_AREA_FORMAT: u8 = 0x53;
+
+/// Tries under which action 4 repeats.
+const MOST_TRIES: u8 = 10;
+
+/// The areas that a recovery only reads.
+#[derive(Clone, Copy, Debug)]
+pub struct Lent<'a> {
+    pub chain: &'a [u8],
+    pub report: &'a [u8],
+    pub extent: &'a [u8],
+}
+
+/// The areas that it may write.
+pub struct Areas<'a> {
+    pub storage: &'a mut [u8],
+    pub program: &'a mut [u8],
+    pub restart_arguments: &'a mut [u8],
+}
+
+rules! {
+    /// The actions that restart.
+    RestartAction {
+        Five,
+        FiveA,
+        Eight,
+        Ten,
+        TenA,
+    }
+}
+
+rules! {
+    /// Why a restart is not built.
+    NotBuilt {
+        OffThePack,
+        OutsideTheExtent,
+    }
+}
+
+#[derive(Clone, Debug, PartialEq, Eq)]
+pub enum Answer {
+    Action1,
+    Action2,
+    /// Action 2 instead of a restart; nothing is written.
+    NotBuilt(RestartAction, NotBuilt),
+    Repeat,
+    CorrectedOnly,
+    /// With this CSW.
+    Finished([u8; 8]),
+    Restart(RestartAction),
+}
+
+/// What action 5 did to storage.
+#[derive(Clone, Debug, PartialEq, Eq)]
+pub struct Correction {
+    pub read: CutRead,
+    /// Of the pattern bytes in order.
+    pub fates: [Fate; 3],
+}
+
+#[derive(Clone, Debug, PartialEq, Eq)]
+pub struct Recovered {
+    /// Place of the row in the table.
+    pub row: usize,
+    pub answer: Answer,
+    /// None where storage was not to be corrected.
+    pub correction: Option<Correction>,
+}
+
+/// Questions 1 and 4 to 9, then the action. A refusal leaves all areas.
+pub fn recover(lent: Lent, areas: Areas, last_cylinder: u16) -> Result<Recovered, Refusal> {
+    check_recovery(RecoverySizes {
+        chain: lent.chain.len(),
+        extent: lent.extent.len(),
+        storage: areas.storage.len(),
+        program: areas.program.len(),
+        restart_arguments: areas.restart_arguments.len(),
+    })?;
+    let report = Report::decode(lent.report).map_err(Refusal::Report)?;
+    let extent = Extent::decode(lent.extent, last_cylinder).map_err(Refusal::Extent)?;
+    let row = table::row_of(&report.sense).ok_or(Refusal::NoRow)?;
+    let case = Case {
+        chain: lent.chain,
+        report,
+        extent,
+        last_cylinder,
+    };
+    let mut correction = None;
+    let decision = match table::TABLE[row].action {
+        Action::One => Decision::Answer(Answer::Action1),
+        Action::Two => Decision::Answer(Answer::Action2),
+        Action::Three => repeat_if(case.report.tries == 0),
+        Action::Four => repeat_if(case.report.tries < MOST_TRIES),
+        Action::Five => {
+            let (decision, read) = case.action_5(areas.storage.len())?;
+            if decision.corrects() {
+                let fates = correct::fates(&read, &case.report);
+                correct::mend(areas.storage, fates, case.report.pattern());
+                correction = Some(Correction { read, fates });
+            }
+            decision
+        }
+        Action::Eight => case.action_8()?,
+        Action::Ten => case.action_10()?,
+        unknown => return Err(Refusal::Action(unknown)),
+    };
+    let answer = match decision {
+        Decision::Answer(answer) => answer,
+        Decision::Restart(action, built) => {
+            areas.program.copy_from_slice(&built.program);
+            areas.restart_arguments.copy_from_slice(&built.arguments);
+            Answer::Restart(action)
+        }
+    };
+    Ok(Recovered {
+        row,
+        answer,
+        correction,
+    })
+}
+
+enum Decision {
+    Answer(Answer),
+    Restart(RestartAction, BuiltRestart),
+}
+
+impl Decision {
+    /// Of action 5: whether storage is corrected.
+    fn corrects(&self) -> bool {
+        !matches!(self, Decision::Answer(Answer::NotBuilt(..)))
+    }
+}
+
+fn repeat_if(again: bool) -> Decision {
+    Decision::Answer(if again {
+        Answer::Repeat
+    } else {
+        Answer::Action1
+    })
+}
+
+/// A report with the areas that it is judged by.
+struct Case<'a> {
+    chain: &'a [u8],
+    report: Report,
+    extent: Extent,
+    last_cylinder: u16,
+}
+
+impl Case<'_> {
+    fn action_5(&self, storage: usize) -> Result<(Decision, CutRead), Refusal> {
+        let report = &self.report;
+        if report.sense[7] != DATA_AREA_FORMAT {
+            return Err(Refusal::SenseFormat);
+        }
+        let read = CutRead::of(self.chain, report, storage)?;
+        let current = read.end.ccw;
+        let decision = if report.is_pci_fetch_mode() {
+            Decision::Answer(Answer::CorrectedOnly)
+        } else if read.end.is_incorrect_length() || !current.has(FLAG_CHAIN_COMMAND) {
+            Decision::Answer(Answer::Finished(report.csw_less_unit_check()))
+        } else {
+            let next = next_command(self.chain, current.behind())?;
+            self.behind_the_record(&next)
+        };
+        Ok((decision, read))
+    }
+
+    fn behind_the_record(&self, next: &Ccw) -> Decision {
+        let action = if begins_with_count(next) {
+            RestartAction::Five
+        } else {
+            RestartAction::FiveA
+        };
+        let &[c0, c1, h0, h1, number] = &self.report.sense[8..13] else {
+            unreachable!("five bytes");
+        };
+        let track = TrackAddress::decode(&[c0, c1, h0, h1]);
+        let (mask, sector) = (self.report.mask, self.report.sector());
+        self.if_allowed(action, track, || {
+            restart::behind_record([c0, c1, h0, h1, number], mask, sector, next)
+        })
+    }
+
+    fn action_8(&self) -> Result<Decision, Refusal> {
+        let interrupted = self.interrupted()?;
+        let track = next_cylinder(interrupted.track);
+        Ok(self.from_home_address(RestartAction::Eight, track, &interrupted.ccw))
+    }
+
+    fn action_10(&self) -> Result<Decision, Refusal> {
+        let interrupted = self.interrupted()?;
+        if interrupted.is_seek() {
+            let next = interrupted.next_of_seek(self.chain)?;
+            return Ok(self.from_home_address(RestartAction::Ten, interrupted.track, &next));
+        }
+        let track = next_track(interrupted.track);
+        Ok(self.from_home_address(RestartAction::TenA, track, &interrupted.ccw))
+    }
+
+    fn interrupted(&self) -> Result<Interrupted, Refusal> {
+        Interrupted::of(self.chain, &self.report, self.last_cylinder)
+    }
+
+    fn from_home_address(&self, action: RestartAction, track: TrackAddress, to: &Ccw) -> Decision {
+        self.if_allowed(action, track, || {
+            restart::from_home_address(track, self.report.mask, to)
+        })
+    }
+
+    /// The restart, unless its seek may not be.
+    fn if_allowed(
+        &self,
+        action: RestartAction,
+        track: TrackAddress,
+        build: impl FnOnce() -> BuiltRestart,
+    ) -> Decision {
+        let not_built = |why| Decision::Answer(Answer::NotBuilt(action, why));
+        if !track.on_pack(self.last_cylinder) {
+            not_built(NotBuilt::OffThePack)
+        } else if !self.extent.contains(track) {
+            not_built(NotBuilt::OutsideTheExtent)
+        } else {
+            Decision::Restart(action, build())
+        }
+    }
+}
+
+#[cfg(test)]
+mod tests;
