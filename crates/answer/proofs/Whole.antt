@@ -29,7 +29,8 @@ use Rattle.command.specs.declared.Cut.{Cut}
 use Rattle.command.specs.Answer.{senseOf, cutOf}
 use Rattle.trial.specs.declared.Ran.the-variants as Ran
 use Rattle.trial.specs.Trial.{shownOf}
-use Rattle.answer.specs.Answer.{cswBytes, maskBytes, lowered, answerBytes, Writes}
+use Rattle.channel.specs.Csw.{cswBytes}
+use Rattle.answer.specs.Answer.{maskBytes, lowered, answerBytes, Writes}
 
 -- ---- lengths
 

@@ -18,7 +18,8 @@ use Rattle.drive.specs.Drive.{addressBytes}
 use Rattle.drive.specs.Step as Step
 use Rattle.command.specs.declared.Cut.{Cut}
 use Rattle.command.specs.Answer.{cutOf}
-use Rattle.answer.specs.Answer.{cswBytes, maskBytes, lowered}
+use Rattle.channel.specs.Csw.{cswBytes}
+use Rattle.answer.specs.Answer.{maskBytes, lowered}
 
 low-low : (n : ℕ) → n % 256 % 256 ≡ n % 256
 low-low n = omega arith

@@ -3,17 +3,13 @@ use Prim.Native.Nat.{ℕ, _%_}
 use mathlib.Core.Path.{_≡_}
 use mathlib.Core.List.{List, [], _∷_, _++_, map}
 use Rattle.base.specs.Choice.{pick, opt}
-use Rattle.base.specs.Bytes.{two, three}
-use Rattle.channel.specs.declared.Csw.{Csw}
+use Rattle.base.specs.Bytes.{two}
+use Rattle.channel.specs.Csw.{cswBytes}
 use Rattle.drive.specs.declared.FileMask.{FileMask}
 use Rattle.drive.specs.declared.FileMask.the-variants.{Unset, Set}
 use Rattle.trial.specs.declared.Ran.{Ran}
 use Rattle.trial.specs.Run.{ranOf}
 use Rattle.trial.specs.Trial.{Shown, shownOf}
-
--- "CSW: 00, last CCW's address plus 8 (3), unit status .., channel status .., count left 2"
-unfoldable pub cswBytes : Csw → List ℕ
-cswBytes w = 0 ∷ three (w .address) ++ w .unit ∷ w .channel ∷ two (w .count)
 
 -- whether a mask was set, and which; 0 where none was
 unfoldable pub maskBytes : FileMask → List ℕ

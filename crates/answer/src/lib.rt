@@ -16,7 +16,8 @@ ghost use Rattle.channel.specs.Ccw.{addressOf};
 ghost use Rattle.drive.specs.Step as Step;
 ghost use Rattle.command.specs.Answer.{senseOf, cutOf};
 ghost use Rattle.trial.specs.Run.{RanLow};
-ghost use Rattle.answer.specs.Answer.{cswBytes, maskBytes, lowered, Writes, Numbers};
+ghost use Rattle.channel.specs.Csw.{cswBytes};
+ghost use Rattle.answer.specs.Answer.{maskBytes, lowered, Writes, Numbers};
 
 // The low eight bits of a number.
 fn low(n: usize) -> u8

@@ -3,3 +3,4 @@ pub mod Hits
 pub mod Mending
 pub mod DemandThree
 pub mod Example
+pub mod Reported

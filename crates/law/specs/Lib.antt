@@ -1,2 +1,3 @@
 pub mod WholeReading
 pub mod Demand
+pub mod Reported

@@ -4,7 +4,8 @@ use mathlib.Core.Path.{_≡_}
 use mathlib.Core.List.{List, _∷_}
 use Rattle.questions.specs.Number.{numberOf}
 use Rattle.channel.specs.declared.Csw.{Csw}
-use Rattle.answer.specs.Answer.{cswBytes, lowered}
+use Rattle.channel.specs.Csw.{cswBytes}
+use Rattle.answer.specs.Answer.{lowered}
 use Rattle.action.specs.declared.Kind.{Kind}
 use Rattle.action.specs.declared.Kind.the-variants.{Five, FiveA, Eight, Ten, TenA}
 use Rattle.action.specs.declared.Recovered.{Recovered}

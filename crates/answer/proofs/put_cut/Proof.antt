@@ -4,7 +4,8 @@ use Rattle.base.specs.Bytes.{two}
 use Rattle.channel.specs.Ccw.{addressOf}
 use Rattle.drive.specs.Step as Step
 use Rattle.command.specs.Answer.{cutOf}
-use Rattle.answer.specs.Answer.{cswBytes, maskBytes}
+use Rattle.channel.specs.Csw.{cswBytes}
+use Rattle.answer.specs.Answer.{maskBytes}
 use Rattle.answer.proofs.Whole.{csw-length, cut-length, last-length, last-like, whole}
 use borrow.Author.Needs.{needs}
 use Rattle.answer.proofs.put_cut.Statement.{statement}

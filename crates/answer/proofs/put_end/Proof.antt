@@ -2,7 +2,8 @@
 use mathlib.Core.List.{_++_}
 use Rattle.base.specs.Bytes.{two}
 use Rattle.command.specs.Answer.{senseOf}
-use Rattle.answer.specs.Answer.{cswBytes, maskBytes}
+use Rattle.channel.specs.Csw.{cswBytes}
+use Rattle.answer.specs.Answer.{maskBytes}
 use Rattle.answer.proofs.Whole.{csw-length, status-length, last-length, whole}
 use borrow.Author.Needs.{needs}
 use Rattle.answer.proofs.put_end.Statement.{statement}

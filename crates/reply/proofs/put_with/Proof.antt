@@ -3,7 +3,8 @@ use native.Mathlib.Omega.{arith}
 use Prim.Native.Nat.{_-_}
 use mathlib.Core.Path.{_≡_, refl, ap, sym, _∙_}
 use lib.ListN.{length, set, take, drop, length-take, length-drop}
-use Rattle.answer.specs.Answer.{cswBytes, lowered}
+use Rattle.channel.specs.Csw.{cswBytes}
+use Rattle.answer.specs.Answer.{lowered}
 use Rattle.reply.proofs.Bytes.{two-kept, put-behind, put-behind-kept}
 use Rattle.answer.proofs.Whole.{csw-length}
 use borrow.Author.Needs.{needs}
