@@ -264,19 +264,6 @@ fn is_set(mask: FileMask) -> bool
     }
 }
 
-// Whether a byte may be a file mask: bits 2, 5 and 6 are off.
-fn settable(m: u8) -> bool
-    ensures { λ r. ⌜ r ≡ Step.settable m ⌝ }
-{
-    if base::bit(m, 2) {
-        return false;
-    }
-    if base::bit(m, 5) {
-        return false;
-    }
-    !base::bit(m, 6)
-}
-
 // A set file mask, by its argument.
 fn set_mask_to(image: &[u8], m: u8, l: Location, c: Ccw, d: Drive) -> Answer
     requires { ⌜ Standing (now image) d ⌝ }
@@ -288,7 +275,7 @@ fn set_mask_to(image: &[u8], m: u8, l: Location, c: Ccw, d: Drive) -> Answer
     if is_set(mask) {
         return refuse(Check::Rejected, l, c, d);
     }
-    if !settable(m) {
+    if !drive::settable(m) {
         return refuse(Check::Rejected, l, c, d);
     }
     onward(l, behind(l), c, 0, d.masked(image, m))

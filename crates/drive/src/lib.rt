@@ -5,6 +5,7 @@ ghost use mathlib.Core.Path.{_≡_};
 ghost use Prim.Native.Nat.{_<_};
 ghost use Rattle.channel.specs.Fetch.{InBytes};
 ghost use Rattle.drive.specs.Command.{commandOf};
+ghost use Rattle.drive.specs.Step as Step;
 ghost use Rattle.drive.specs.Arguments.{Insides, Argues, Sounds, ArgumentIn, ArgumentByte};
 
 // What a read moves: the count area, the key, the data; and whether it takes the record whose count area was just passed.
@@ -69,6 +70,19 @@ pub fn command_of(code: u8) -> Command
         0x1a => Command::ReadHome,
         _ => Command::Unlisted,
     }
+}
+
+// Whether a byte may be a file mask: bits 2, 5 and 6 are off.
+pub fn settable(m: u8) -> bool
+    ensures { λ r. ⌜ r ≡ Step.settable m ⌝ }
+{
+    if base::bit(m, 2) {
+        return false;
+    }
+    if base::bit(m, 5) {
+        return false;
+    }
+    !base::bit(m, 6)
 }
 
 // Whether a CCW's argument is wholly in its area, with arguments and restart arguments of these lengths.

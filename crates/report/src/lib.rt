@@ -7,7 +7,6 @@ ghost use Prim.Native.Nat.{_+_, _<_, _≤_};
 ghost use lib.ListN.{length};
 ghost use Rattle.base.specs.Bytes.{part};
 ghost use Rattle.drive.specs.declared.FileMask.the-variants.{Unset};
-ghost use Rattle.drive.specs.Step;
 ghost use Rattle.recovery.specs.Report.{reportFrom, cswFrom, withMask, withSeek, withTries};
 ghost use Rattle.report.specs.declared.Seek.the-variants.{Absent};
 ghost use Rattle.report.specs.Reported.{wantedAt, soFar, reportedOf, Reads, Bounds, Bounded};
@@ -60,19 +59,6 @@ fn wanted_at(report: &[u8], at: usize, tag: u8, n: usize) -> Wanted
         start: start,
         next: next,
     }
-}
-
-// Whether a byte may be a file mask: bits 2, 5 and 6 are off.
-fn settable(m: u8) -> bool
-    ensures { λ r. ⌜ r ≡ Step.settable m ⌝ }
-{
-    if base::bit(m, 2) {
-        return false;
-    }
-    if base::bit(m, 5) {
-        return false;
-    }
-    !base::bit(m, 6)
 }
 
 // The tries made, if a field says so, and nothing behind it.
@@ -134,7 +120,7 @@ fn with_mask(report: &[u8], at: usize, csw: Csw, first: usize) -> Reported
         return with_seek(report, at, csw, first, FileMask::Unset);
     };
     let m = report[start];
-    if !settable(m) {
+    if !drive::settable(m) {
         return Reported::Ill;
     }
     with_seek(report, next, csw, first, FileMask::Set(m))

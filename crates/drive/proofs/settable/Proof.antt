@@ -1,9 +1,9 @@
--- `report::settable` meets its contract by the mask's bits. Assumes nothing.
+-- `drive::settable` meets its contract by the mask's bits. Assumes nothing.
 use mathlib.Core.Path.{sym, _∙_}
 use Rattle.drive.specs.Step as Step
 use borrow.Author.Needs.{needs}
-use Rattle.report.proofs.settable.Statement.{statement}
-use Rattle.report.proofs.settable.Tie as tie
+use Rattle.drive.proofs.settable.Statement.{statement}
+use Rattle.drive.proofs.settable.Tie as tie
 
 bit-requires : tie.Need-bit-requires
 bit-requires c κs = search needs
