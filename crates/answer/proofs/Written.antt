@@ -1,8 +1,9 @@
 -- The parts of an answer, from the bytes that the code writes.
 --   csw-written, cut-written          the CSW, and the sense of a cut
+--   cut-plain                         which is no longer than its bytes
 --   unmasked-written, masked-written  the file mask and the first CCW's address, without a mask and with one
 --   low-restart                       an address in a restart program, by its two low bytes
-use Prim.Native.Nat.{ℕ, _+_, _/_, _%_}
+use Prim.Native.Nat.{ℕ, _+_, _/_, _%_, _<_}
 use native.Mathlib.Omega.{arith}
 use mathlib.Core.Path.{_≡_, refl, _∙_}
 use mathlib.Core.Bool.{Bool, true, false}
@@ -17,7 +18,7 @@ use Rattle.drive.specs.declared.FileMask.the-variants.{Unset, Set}
 use Rattle.drive.specs.Drive.{addressBytes}
 use Rattle.drive.specs.Step as Step
 use Rattle.command.specs.declared.Cut.{Cut}
-use Rattle.command.specs.Answer.{cutOf}
+use Rattle.command.specs.Answer.{cutOf, CutLow}
 use Rattle.channel.specs.Csw.{cswBytes}
 use Rattle.answer.specs.Answer.{maskBytes, lowered}
 
@@ -78,6 +79,29 @@ cut-written k x y a b c d e f g h i j u0 v0 u1 v1 u2 v2 w q =
       low-low (k .restart / 256),
       low-low (k .restart),
       low-low (k .error),
+    )
+
+same-low : (n : ℕ) → n < 256 → n % 256 ≡ n
+same-low n h = omega arith
+
+pub cut-plain : (k : Cut) → CutLow k → k .pattern0 < 256 → k .pattern1 < 256 → k .pattern2 < 256 → lowered (Step.cutSense (cutOf k [])) ≡ Step.cutSense (cutOf k [])
+unfolding lowered Step.cutSense addressBytes three two
+cut-plain k low p0 p1 p2 =
+    rw (
+      same-low (k .at .cylinder / 256) (omega (arith, low .cylinder)),
+      low-low (k .at .cylinder),
+      same-low (k .at .head / 256) (omega (arith, low .head)),
+      low-low (k .at .head),
+      same-low (k .r) (low .number),
+      same-low (k .restart / 65536) (omega (arith, low .restart-low)),
+      low-low (k .restart / 256),
+      low-low (k .restart),
+      same-low (k .error / 256) (omega (arith, low .error-low)),
+      low-low (k .error),
+      same-low (k .pattern0) p0,
+      same-low (k .pattern1) p1,
+      same-low (k .pattern2) p2,
+      low-over (k .over),
     )
 
 module _ (x y : List ℕ) (first : ℕ) {a b : ℕ} (ea : a ≡ first / 256 % 256) (eb : b ≡ first % 256) where

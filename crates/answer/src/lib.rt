@@ -14,7 +14,7 @@ ghost use Rattle.base.specs.Choice.{pick};
 ghost use Rattle.base.specs.Bytes.{two};
 ghost use Rattle.channel.specs.Ccw.{addressOf};
 ghost use Rattle.drive.specs.Step as Step;
-ghost use Rattle.command.specs.Answer.{senseOf, cutOf};
+ghost use Rattle.command.specs.Answer.{senseOf, cutOf, CutLow};
 ghost use Rattle.trial.specs.Run.{RanLow};
 ghost use Rattle.channel.specs.Csw.{cswBytes};
 ghost use Rattle.answer.specs.Answer.{maskBytes, lowered, Writes, Numbers};
@@ -109,9 +109,10 @@ fn over_bit(over: bool) -> u8
 }
 
 // The sense of a cut.
-fn put_cut_sense(to: &mut [u8], k: Cut)
+pub fn put_cut_sense(to: &mut [u8], k: Cut)
     requires { ⌜ 24 ≤ length (now to) ⌝ }
     ensures { λ _. ⌜ now (to .exit) ≡ lowered (Step.cutSense (cutOf k [])) ++ drop 24 (now (to .entry)) ⌝ }
+    ensures plain { λ _. ⌜ (CutLow k → now (to .exit) ≡ Step.cutSense (cutOf k []) ++ drop 24 (now (to .entry))) ⌝ }
 {
     let at = k.at;
     copy::put(

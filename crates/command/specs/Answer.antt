@@ -74,11 +74,21 @@ Answers f r = (st : List ℕ) → f st ≡ answerOf r st
 abbrev pub Low : Location → Type 0
 Low l = addressOf l < 0x10000
 
--- The drive stands in the image; the CCW that was fetched last has an address that a CSW can show.
+-- What a cut tells fits the bytes of a report.
+pub record CutLow (k : Cut) : Type 0 where
+  pub cylinder : k .at .cylinder < 0x10000
+  pub head : k .at .head < 0x10000
+  pub number : k .r < 0x100
+  pub restart-low : k .restart < 0x10000
+  pub error-low : k .error < 0x10000
+  pub first-low : Low (k .first)
+  pub csw-low : k .csw .address < 0x1000000
+
+-- The drive stands in the image; the CCW that was fetched last has an address that a CSW can show; a cut fits a report.
 abbrev pub Kept : List ℕ → Answer → Type 0
 Kept image (Goes s) = Standing image (s .drive) × Low (s .last)
 Kept image (Ends e) = Unit {0}
-Kept image (Cuts k) = Unit {0}
+Kept image (Cuts k) = CutLow k
 
 -- in every image
 abbrev pub KeptAlways : Answer → Type 0

@@ -2,6 +2,7 @@
 --   data-length      its data are as long as its place says
 --   bytes-are        the bytes of a read are a part of the image
 --   bytes-few        there are few
+--   place-low        its track and number fit their bytes
 --   faults-inside    a fault that names it lies in the bytes of a read that takes its data
 use Prim.Native.Nat.{ℕ, _+_, _-_, _<_, _≤_}
 use native.Mathlib.Omega.{arith}
@@ -29,7 +30,8 @@ use Rattle.drive.specs.Command.{commandOf}
 use Rattle.drive.specs.Drive.{noRecord, countArea}
 use Rattle.drive.specs.Step.{included, bytesOf}
 use Rattle.position.specs.Standing.{Belongs}
-use Rattle.read.specs.Bytes.{AreBytes, from, to}
+use Rattle.settle.specs.Settle.{PlaceLow}
+use Rattle.read.specs.Bytes.{AreBytes, Counted, from, to}
 use Rattle.read.proofs.Counted.{counted}
 use Rattle.read.proofs.Parts.{bytes-part, part-inside, part-short}
 use Rattle.execute.specs.Executes.{Begun, Lies, FaultsInside}
@@ -107,6 +109,15 @@ module _ (image : List ℕ) (x : Place) (whole : wellFormed lastCylinder image �
       let i = s .inside in
       let j = body-inside k y h in
       omega arith
+
+pub place-low : (image : List ℕ) (x : Place) → Lies image x → AreBytes image → PlaceLow x
+place-low image x lies small =
+    let k : Counted image x = counted image (lies .found .0) x (lies .found .1) in
+    let c0 = small (k .start) in
+    let c1 = small (k .start + 1) in
+    let h0 = small (k .start + 2) in
+    let h1 = small (k .start + 2 + 1) in
+    record { cylinder = omega (arith, k .cylinder, c0, c1); head = omega (arith, k .head, h0, h1); number = lies .within .number }
 
 pub faults-inside : (chain program image faults : List ℕ) → (g : Begun chain program image faults) (x : Place) → Lies image x → (k : Read) (n : ℕ) → n ≡ length (bytesOf k (recordFrom image x))
     → FaultsInside faults k x n

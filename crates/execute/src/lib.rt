@@ -26,6 +26,7 @@ ghost use Rattle.drive.specs.Command.{commandOf};
 ghost use Rattle.drive.specs.Step as Step;
 ghost use Rattle.position.specs.Standing.{driveOf, Standing};
 ghost use Rattle.command.specs.Answer.{Low, Kept, KeptWith, KeptAlways};
+ghost use Rattle.settle.specs.Settle.{PlaceLow};
 ghost use Rattle.execute.specs.Executes.{Begun, Steps, Executes, InArea, Unchecked, Performs, Ready, Lies, FaultTaken, FaultsInside, Ends, Carries, Struck, ReadsBytes, planOf, recordPlan, Homes};
 
 // ---- reads, once their bytes are known
@@ -95,6 +96,7 @@ fn struck(
     requires { ⌜ Ready (now chain) (now program) (now storage) l c ⌝ }
     requires { ⌜ length (now bytes) ≤ 16384 ⌝ }
     requires { ⌜ f .displacement .0 ≤ length (now bytes) ⌝ }
+    requires { ⌜ PlaceLow x ⌝ }
     ensures { λ r. ⌜ Struck (now (chain .entry)) (now (program .entry)) l c (now (bytes .entry)) x f (driveOf e) (now (storage .entry)) r (now (storage .exit)) ⌝ }
     ensures { λ r. ⌜ KeptAlways r ⌝ }
 {
@@ -145,6 +147,7 @@ fn read_bytes(
     requires { ⌜ length (now bytes) ≤ 16384 ⌝ }
     requires { ⌜ x .body ≤ x .next ⌝ }
     requires { ⌜ FaultsInside (now faults) k x (length (now bytes)) ⌝ }
+    requires { ⌜ PlaceLow x ⌝ }
     ensures { λ r. ⌜ ReadsBytes (now (chain .entry)) (now (program .entry)) (now (faults .entry)) l c k x (now (bytes .entry)) (driveOf e) (now (storage .entry)) r (now (storage .exit)) ⌝ }
     ensures { λ r. ⌜ KeptWith e r ⌝ }
 {

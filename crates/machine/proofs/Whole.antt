@@ -3,6 +3,9 @@
 --   along-here, along-goes   P before the first command, and along the rest
 --   along-kept               a property that each command keeps holds along with P
 --   reading-ended            a reading whose run ended
+--   reading-limited          whose run reached its limit
+--   reading-exhausted        whose run was cut, with no recovery left
+--   reading-stop             whose run was cut, and stopped by recovery
 --   reading-restart          whose run was cut, with a restart
 --   reading-finish           whose run was cut, and finished by recovery
 --   Each                     a property of every element
@@ -17,9 +20,9 @@ use mathlib.Core.Option.{Option, none, some}
 use mathlib.Core.List.{List, [], _∷_, _++_, map, append-nil}
 use lib.ListN.{length}
 use lib.Seq.{append-snoc}
-use Rattle.machine.specs.Machine.{Outcome, goes, ends, cuts, Result, ended, cut, run, notes, Along}
+use Rattle.machine.specs.Machine.{Outcome, goes, ends, cuts, Result, ended, cut, limit, run, notes, Along}
 use Rattle.machine.specs.Reading as Reading
-use Rattle.machine.specs.Reading.{Recovered, restart, finish, Log, reading}
+use Rattle.machine.specs.Reading.{Recovered, restart, finish, stop, Log, reading}
 use Rattle.machine.proofs.Run.{run-goes, run-ends, run-cuts, notes-goes-some, notes-goes-none, notes-ends-some, notes-ends-none}
 
 -- ---- along a run
@@ -60,6 +63,19 @@ module _ {T R S E F C X : Type 0} (start : R → Result S E C) (recover : C → 
   unfolding reading
   reading-ended zero g e = refl
   reading-ended (suc k) g e = refl
+
+  pub reading-limited : (k : ℕ) (g : Log T R) (s : S) → reading start recover close k g (limit s) ≡ Reading.limited g s
+  unfolding reading
+  reading-limited zero g s = refl
+  reading-limited (suc k) g s = refl
+
+  pub reading-exhausted : (g : Log T R) (c : C) → reading start recover close zero g (cut c) ≡ Reading.exhausted g c
+  unfolding reading
+  reading-exhausted g c = refl
+
+  pub reading-stop : (k : ℕ) (g : Log T R) (c : C) (n : X) → recover c ≡ stop n → reading start recover close (suc k) g (cut c) ≡ Reading.stops g n c
+  unfolding reading
+  reading-stop k g c n h = rw (h, reading)
 
   pub reading-restart : (k : ℕ) (g : Log T R) (c : C) (t : T) (r : R) → recover c ≡ restart t r
       → reading start recover close (suc k) g (cut c) ≡ reading start recover close k (Reading.noted start recover close g t (r ∷ [])) (start r)

@@ -7,7 +7,7 @@ ghost use lib.ListN.{length};
 ghost use Rattle.reply.specs.Reply.{replyNumber, actionNumber, noCsw, bytesWith, replyAfter};
 
 // The action of a restart.
-fn action_number(k: Kind) -> u8
+pub fn action_number(k: Kind) -> u8
     ensures { λ r. ⌜ r ≡ actionNumber k ⌝ }
 {
     match k {

@@ -3,8 +3,10 @@
 --   settled-checked .. settled-onward      a read without fault
 --   excepted-checked, excepted-ended       one of a data area of length 0
 --   faulted-checked, faulted-ended         one of a faulted data area
+--   cut-low                                the numbers of the cut fit a report
 --   through                                from the places that a walk found to what was carried
-use Prim.Native.Nat.{ℕ}
+use Prim.Native.Nat.{ℕ, _+_}
+use native.Mathlib.Omega.{arith}
 use mathlib.Core.Path.{_≡_, ap, sym, subst, _∙_}
 use mathlib.Core.Bool.{Bool, true, false}
 use mathlib.Core.Option.{Option}
@@ -17,7 +19,7 @@ use Rattle.faults.specs.FaultAt.{faultFrom}
 use Rattle.channel.specs.declared.Ccw.{Ccw}
 use Rattle.channel.specs.declared.Csw.{Csw}
 use Rattle.channel.specs.declared.Location.{Location}
-use Rattle.channel.specs.Ccw.{next}
+use Rattle.channel.specs.Ccw.{next, addressOf}
 use Rattle.channel.specs.Store.{store}
 use Rattle.channel.specs.Walk.{Walk, walked, stopped, incorrectLength}
 use Rattle.transfer.specs.declared.Moved.{Moved}
@@ -27,10 +29,11 @@ use Rattle.drive.specs.Step as Step
 use Rattle.position.specs.declared.Drive.{Drive}
 use Rattle.position.specs.Standing.{driveOf}
 use Rattle.command.specs.declared.Status.the-variants.{Quiet}
+use Rattle.command.specs.declared.Cut.{Cut}
 use Rattle.command.specs.declared.Answer.{Answer}
 use Rattle.command.specs.declared.Answer.the-variants.{Ends, Cuts}
-use Rattle.command.specs.Answer.{answerOf, Answers, Low}
-use Rattle.settle.specs.Settle.{walkOf, LowMoved, Settles, Excepts, Strikes}
+use Rattle.command.specs.Answer.{answerOf, Answers, Low, CutLow}
+use Rattle.settle.specs.Settle.{walkOf, LowMoved, StruckLow, Settles, Excepts, Strikes}
 
 pub checked-low : (m : Moved) (l : Location) → m ≡ Checked l → LowMoved m → Low l
 checked-low m l e h = subst LowMoved e h
@@ -41,8 +44,8 @@ ended-low m l c n over e h = subst LowMoved e h
 abbrev quiet : Csw → Drive → Answer
 quiet w d = Ends (record { csw = w; status = Quiet; mask = d .mask })
 
-abbrev cut : Location → Place → Listed → ℕ → Drive → Bool → Csw → Answer
-cut first p f n d over w = Cuts (record {
+abbrev pub told : Location → Place → Listed → ℕ → Drive → Bool → Csw → Cut
+told first p f n d over w = record {
   at = p .at;
   r = p .r;
   restart = n;
@@ -54,7 +57,25 @@ cut first p f n d over w = Cuts (record {
   first = first;
   mask = d .mask;
   csw = w;
-})
+}
+
+abbrev cut : Location → Place → Listed → ℕ → Drive → Bool → Csw → Answer
+cut first p f n d over w = Cuts (told first p f n d over w)
+
+pub cut-low : (first l : Location) (p : Place) (f : Listed) (n : ℕ) (d : Drive) (over : Bool) (w : Csw) (unit channel left : ℕ)
+    → StruckLow first p f n → Low l → w ≡ Step.cswAt l unit channel left → CutLow (told first p f n d over w)
+unfolding Step.cswAt
+cut-low first l p f n d over w unit channel left s h e =
+    let a : w .address ≡ addressOf l + 8 = ap (λ (q : Csw). q .address) e in
+    record {
+      cylinder = s .place .cylinder;
+      head = s .place .head;
+      number = s .place .number;
+      restart-low = omega (arith, s .few);
+      error-low = omega (arith, s .few, s .inside);
+      first-low = s .first-low;
+      csw-low = omega (arith, a, h);
+    }
 
 module _ (d : Drive) (m : Moved) (r : Answer) (l : Location) where
   module _ (e : m ≡ Checked l) (h : Answers (Step.programCheck l (driveOf d)) r) where

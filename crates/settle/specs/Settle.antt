@@ -1,5 +1,5 @@
 -- What a read comes to, by how its data chain ended. Where its bytes went is told apart, by any places ps.
-use Prim.Native.Nat.{ℕ}
+use Prim.Native.Nat.{ℕ, _<_, _≤_}
 use mathlib.Core.Path.{_≡_}
 use mathlib.Core.Option.{Option}
 use mathlib.Core.List.{List}
@@ -28,6 +28,19 @@ walkOf ps (Checked l) = stopped ps l
 abbrev pub LowMoved : Moved → Type 0
 LowMoved (Ended l c left over) = Low l
 LowMoved (Checked l) = Low l
+
+-- the track and number of a record, as its count area has them
+pub record PlaceLow (p : Place) : Type 0 where
+  pub cylinder : p .at .cylinder < 0x10000
+  pub head : p .at .head < 0x10000
+  pub number : p .r < 0x100
+
+-- a read of n bytes from the CCW at `first` on, in which a fault lies
+pub record StruckLow (first : Location) (p : Place) (f : Listed) (n : ℕ) : Type 0 where
+  pub place : PlaceLow p
+  pub few : n ≤ 16384
+  pub inside : f .displacement .0 ≤ n
+  pub first-low : Low first
 
 -- a read without fault, with the drive behind it
 abbrev pub Settles : Abstract.Drive → Moved → Answer → Type 0

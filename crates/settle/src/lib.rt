@@ -13,7 +13,7 @@ ghost use mathlib.Core.Path.{_≡_};
 ghost use Rattle.drive.specs.Step.{lengthStatus};
 ghost use Rattle.position.specs.Standing.{driveOf};
 ghost use Rattle.command.specs.Answer.{KeptWith, KeptAlways};
-ghost use Rattle.settle.specs.Settle.{LowMoved, Settles, Excepts, Strikes};
+ghost use Rattle.settle.specs.Settle.{LowMoved, StruckLow, Settles, Excepts, Strikes};
 
 // The channel status at a read's end.
 fn length_status(wrong: bool) -> u8
@@ -84,6 +84,7 @@ pub fn excepted(m: Moved, d: Drive) -> Answer
 // A read of `length` bytes that ends with a faulted data area: a cut, unless a program check came first.
 pub fn faulted(m: Moved, first: Location, p: Place, f: Listed, length: usize, d: Drive) -> Answer
     requires { ⌜ LowMoved m ⌝ }
+    requires { ⌜ StruckLow first p f length ⌝ }
     ensures { λ r. ⌜ Strikes first p f length (driveOf d) m r ⌝ }
     ensures { λ r. ⌜ KeptAlways r ⌝ }
 {

@@ -50,7 +50,7 @@ returns c =
     let k = start .args .k in
     let l = last-like (k .mask) _ _ (c .before .before .before .low-address .ensures) in
     whole (cswBytes (k .csw)) (Step.cutSense (cutOf k [])) (maskBytes (k .mask) ++ two (addressOf (k .first))) (start .args .answer .now) _ _ (start .pre)
-    (csw-length (k .csw)) (cut-length k) (last-length (k .mask) _) (c .before .before .before .before .before .before .before .before .before .before .before .put-csw .ensures) (c .before .before .before .before .before .before .before .put-cut-sense .ensures) _ (rw l at (c .before .before .put-last .ensures))
+    (csw-length (k .csw)) (cut-length k) (last-length (k .mask) _) (c .before .before .before .before .before .before .before .before .before .before .before .put-csw .ensures) (c .before .before .before .before .before .before .before .put-cut-sense .ensures .0) _ (rw l at (c .before .before .put-last .ensures))
 
 pub put-cut-spec : {M : Type 1} → statement M
 put-cut-spec =

@@ -1,6 +1,10 @@
 -- `answer::put_cut_sense` meets its contract: each byte is a number's low eight bits. Assumes nothing.
 use native.Mathlib.Omega.{arith}
-use Rattle.answer.proofs.Written.{cut-written}
+use mathlib.Core.Path.{ap, _∙_}
+use mathlib.Core.List.{List, _++_}
+use lib.ListN.{drop}
+use Prim.Native.Nat.{ℕ}
+use Rattle.answer.proofs.Written.{cut-written, cut-plain}
 use borrow.Author.Needs.{needs}
 use Rattle.answer.proofs.put_cut_sense.Statement.{statement}
 use Rattle.answer.proofs.put_cut_sense.Tie as tie
@@ -67,7 +71,8 @@ same-length c = search needs
 
 returns : tie.Need-returns
 returns c =
-    cut-written _ (c .before .before .before .before .before .before .before .before .before .before .before .before .before .before .before .before .before .before .before .before .before .before .before .before .before .before .before .before .before .args .to .now) _ (c .before .before .before .before .before .before .before .before .before .before .before .before .before .before .before .before .before .before .before .before .before .before .before .before .low .ensures) (c .before .before .before .before .before .before .before .before .before .before .before .before .before .before .before .before .before .before .before .before .before .before .before .low2 .ensures)
+    let k = c .before .before .before .before .before .before .before .before .before .before .before .before .before .before .before .before .before .before .before .before .before .before .before .before .before .before .before .before .before .args .k in
+    let written = cut-written k (c .before .before .before .before .before .before .before .before .before .before .before .before .before .before .before .before .before .before .before .before .before .before .before .before .before .before .before .before .before .args .to .now) _ (c .before .before .before .before .before .before .before .before .before .before .before .before .before .before .before .before .before .before .before .before .before .before .before .before .low .ensures) (c .before .before .before .before .before .before .before .before .before .before .before .before .before .before .before .before .before .before .before .before .before .before .before .low2 .ensures)
     (c .before .before .before .before .before .before .before .before .before .before .before .before .before .before .before .before .before .before .before .before .before .low3 .ensures) (c .before .before .before .before .before .before .before .before .before .before .before .before .before .before .before .before .before .before .before .before .low4 .ensures)
     (c .before .before .before .before .before .before .before .before .before .before .before .before .before .before .before .before .before .before .before .low5 .ensures) (c .before .before .before .before .before .before .before .before .before .before .before .before .before .before .before .before .before .low6 .ensures)
     (c .before .before .before .before .before .before .before .before .before .before .before .before .before .before .before .low7 .ensures) (c .before .before .before .before .before .before .before .before .before .before .before .before .before .before .low8 .ensures)
@@ -76,7 +81,8 @@ returns c =
     (c .before .before .before .before .before .before .before .before .wide2 .ensures .0) (c .before .before .before .before .before .before .before .low12 .ensures)
     (c .before .before .before .before .before .before .wide3 .ensures .0) (c .before .before .before .before .before .low13 .ensures)
     (c .before .before .before .before .over-bit .ensures)
-    (c .before .before .put .ensures)
+    (c .before .before .put .ensures) in
+    (written, λ low. written ∙ ap (λ (s : List ℕ). s ++ drop 24 (c .before .before .before .before .before .before .before .before .before .before .before .before .before .before .before .before .before .before .before .before .before .before .before .before .before .before .before .before .before .args .to .now)) (cut-plain k low (omega (arith, c .before .before .before .before .before .before .before .before .before .before .wide .ensures)) (omega (arith, c .before .before .before .before .before .before .before .before .wide2 .ensures)) (omega (arith, c .before .before .before .before .before .before .wide3 .ensures))))
 
 pub put-cut-sense-spec : {M : Type 1} → statement M
 put-cut-sense-spec =

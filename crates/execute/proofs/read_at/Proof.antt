@@ -8,7 +8,7 @@ use Rattle.pack.specs.Places.{recordFrom}
 use Rattle.read.specs.Bytes.{from, to}
 use Rattle.read.proofs.Counted.{counted, room}
 use Rattle.read.proofs.Parts.{part-inside}
-use Rattle.execute.proofs.Records.{data-length, bytes-are, bytes-few, faults-inside}
+use Rattle.execute.proofs.Records.{data-length, bytes-are, bytes-few, faults-inside, place-low}
 use borrow.Author.Needs.{needs}
 use Rattle.execute.proofs.read_at.Statement.{statement}
 use Rattle.execute.proofs.read_at.Tie as tie
@@ -55,7 +55,7 @@ read-bytes-requires c κs =
     let n = c .before .before .last in
     let same = bytes-are (a .image .now) (a .x) (g .whole) lies _ _ code (m .result) (n .result) (m .ensures) (n .ensures) (c .before .before .before .before .hold .ensures) in
     let few = bytes-few (a .image .now) (a .x) (g .whole) lies _ _ code (m .result) (n .result) (m .ensures) (n .ensures) in
-    (start .pre .0, (few, (lies .within .body-first, faults-inside _ _ _ _ g (a .x) lies (a .k) _ (ap length (sym same)))))
+    (start .pre .0, (few, (lies .within .body-first, (faults-inside _ _ _ _ g (a .x) lies (a .k) _ (ap length (sym same)), place-low (a .image .now) (a .x) lies (c .before .before .before .before .hold .ensures)))))
 
 same-length : tie.Need-same-length
 same-length c = search needs

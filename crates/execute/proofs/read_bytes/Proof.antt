@@ -43,7 +43,7 @@ struck-requires : tie.Need-struck-requires
 struck-requires c κs =
     let start = c .before .before .before .before .before .before .before .before .before .before .before .before in
     let found = rw (c .before .before .f .given .1) at (c .before .before .before .before .fault-taken .ensures) in
-    (start .pre .0, (start .pre .1 .0, named-found _ (start .args .k) (start .args .x) _ _ (found .0) (start .pre .1 .1 .1) (found .1)))
+    (start .pre .0, (start .pre .1 .0, (named-found _ (start .args .k) (start .args .x) _ _ (found .0) (start .pre .1 .1 .1 .0) (found .1), start .pre .1 .1 .1 .1)))
 
 same-length-2 : tie.Need-same-length-2
 same-length-2 c = search needs

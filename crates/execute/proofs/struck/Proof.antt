@@ -1,5 +1,5 @@
 -- `execute::struck` meets its contract: the bytes as they arrive, their way, then how it settled. Assumes nothing.
-use Rattle.execute.proofs.Moves.{moved-low, ended-so, front-length}
+use Rattle.execute.proofs.Moves.{moved-low, inside-low, ended-so, front-length}
 use native.Mathlib.Omega.{arith}
 use mathlib.Core.Path.{_≡_, refl, ap, sym, _∙_}
 use lib.ListN.{length, take, drop, length-take}
@@ -34,7 +34,12 @@ transfer-requires c κs =
     (ready .inside, (ready .bytes, (ready .range, omega (arith, n, start .pre .1 .0))))
 
 faulted-requires : tie.Need-faulted-requires
-faulted-requires c κs = moved-low _ _ _ _ _ _ _ (c .before .before .transfer .result) (c .before .before .transfer .ensures) (c .before .before .before .before .before .before .before .before .before .before .before .before .pre .0)
+faulted-requires c κs =
+    let given = c .before .before .before .before .before .before .before .before .before .before .before .before .pre in
+    let ready = given .0 in (
+      moved-low _ _ _ _ _ _ _ (c .before .before .transfer .result) (c .before .before .transfer .ensures) ready,
+      record { place = given .1 .1 .1; few = given .1 .0; inside = given .1 .1 .0; first-low = inside-low _ _ (ready .short) _ (ready .inside) },
+    )
 
 same-length : tie.Need-same-length
 same-length c = search needs

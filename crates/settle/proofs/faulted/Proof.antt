@@ -1,5 +1,5 @@
 -- `settle::faulted` meets its contract: by how the data chain ended. Assumes nothing.
-use Rattle.settle.proofs.Ends.{checked-low, ended-low, faulted-checked, faulted-ended}
+use Rattle.settle.proofs.Ends.{checked-low, ended-low, faulted-checked, faulted-ended, cut-low}
 use borrow.Author.Needs.{needs}
 use Rattle.settle.proofs.faulted.Statement.{statement}
 use Rattle.settle.proofs.faulted.Tie as tie
@@ -8,7 +8,7 @@ enum-known-m : tie.Need-enum-known-m
 enum-known-m c = search needs
 
 program-check-requires : tie.Need-program-check-requires
-program-check-requires c κs = checked-low _ _ (c .before .m .given .1) (c .before .before .before .pre)
+program-check-requires c κs = checked-low _ _ (c .before .m .given .1) (c .before .before .before .pre .0)
 
 returns : tie.Need-returns
 returns c =
@@ -27,15 +27,18 @@ length-status-requires c κs = search needs
 csw-at-requires : tie.Need-csw-at-requires
 csw-at-requires c κs =
     let m = c .before .before .before .before .m2 .given in
-    ended-low _ _ _ _ _ (m .1) (c .before .before .before .before .before .before .pre)
+    ended-low _ _ _ _ _ (m .1) (c .before .before .before .before .before .before .pre .0)
 
 returns-2 : tie.Need-returns-2
 returns-2 c =
     let status = c .before .before .length-status in
     let wrong = c .before .before .before .incorrect-length in
     let m = c .before .before .before .before .before .m2 .given in
-    let given = c .before .before .before .before .before .before .before .args in
-    (faulted-ended (given .d) _ _ _ _ _ (m .1) (wrong .result) (status .result) _ (wrong .ensures) (status .ensures) _ (given .p) _ _ (c .csw-at .ensures), λ image. tt)
+    let start = c .before .before .before .before .before .before .before in
+    let given = start .args in (
+      faulted-ended (given .d) _ _ _ _ _ (m .1) (wrong .result) (status .result) _ (wrong .ensures) (status .ensures) _ (given .p) _ _ (c .csw-at .ensures),
+      λ image. cut-low _ _ (given .p) (given .f) _ (given .d) _ (c .csw-at .result) _ _ _ (start .pre .1) (ended-low _ _ _ _ _ (m .1) (start .pre .0)) (c .csw-at .ensures),
+    )
 
 pub faulted-spec : {M : Type 1} → statement M
 faulted-spec =

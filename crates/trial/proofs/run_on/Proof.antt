@@ -73,7 +73,7 @@ returns-2 c =
     let at = call .before .before .before .loop in
     let s₀ = call .before .before .before .before .before .before .before .before .before .before .before .args .s in
     let e = rw (c .before .k .given .1) at (call .step .ensures .0) in
-    (cut-so _ _ _ _ _ _ _ s₀ _ _ (at .here) _ (at .inv .3) (c .before .k .given .0 .0) _ (call .before .before .loop-test .taken) e, tt)
+    (cut-so _ _ _ _ _ _ _ s₀ _ _ (at .here) _ (at .inv .3) (c .before .k .given .0 .0) _ (call .before .before .loop-test .taken) e, rw (c .before .k .given .1) at (call .step .ensures .1))
 
 same-length-3 : tie.Need-same-length-3 Inv-loop μ-loop
 same-length-3 c = search needs
