@@ -1,7 +1,7 @@
 -- The calls, from the tests that their code makes.
 --   short-chain, short-program    what question 1 says of the areas that CCWs stand in
 --   low-chain, low-restart        where runs start
---   listed                        what question 3 says of a fault list
+--   listed, kept-out              what question 3 says of a fault list; a choice that no test lets through
 --   image-refused, faults-refused, ran-so      questions 2 and 3, and the run behind them
 --   run-refused, run-fits         question 1 of a run
 --   restart-refused, program-refused, restart-fits      question 1 of a restarted run
@@ -76,7 +76,7 @@ listed ts s h = by (faultsAt s 0) h
     by (some fs) q = (fs, refl, q)
 
 -- a choice that no test of it lets through
-kept-out : {A B : Type 0} (o : Option A) (f : A → Bool) (y : B) (g : A → B) → opt o false f ≡ false → y ≡ opt o y (λ a. pick (f a) (g a) y)
+pub kept-out : {A B : Type 0} (o : Option A) (f : A → Bool) (y : B) (g : A → B) → opt o false f ≡ false → y ≡ opt o y (λ a. pick (f a) (g a) y)
 unfolding opt
 kept-out none f y g h = refl
 kept-out (some a) f y g h = sym (pick-false (g a) y h)

@@ -1,3 +1,4 @@
 pub mod Listed
 pub mod Answered
 pub mod Ons
+pub mod Calls

@@ -1,38 +1,35 @@
+-- `whole::areas_fit` meets its contract: area by area. Assumes nothing.
+use native.Mathlib.Omega.{arith}
+use mathlib.Core.Path.{sym, _∙_}
+use borrow.Author.Tests.{not-true, not-false, eq-eqb, ne-eqb}
+use Rattle.whole.proofs.Calls.{run-not, limit-low, extent-not, restart-not, list-left}
 use borrow.Author.Needs.{needs}
 use Rattle.whole.proofs.areas_fit.Statement.{statement}
 use Rattle.whole.proofs.areas_fit.Tie as tie
-use Rattle.whole.proofs.areas_fit.Reads as reads
-use Rattle.whole.proofs.areas_fit.Lts as lts
-use Rattle.questions.proofs.restart_areas.Reads as restart-areas-reads
-use Rattle.questions.proofs.run_areas.Reads as run-areas-reads
 
--- src/lib.rt:269:9
 run-areas-requires : tie.Need-run-areas-requires
 run-areas-requires c κs = search needs
 
--- src/lib.rt:270:9
 returns : tie.Need-returns
-returns c = ?
+returns c = run-not _ _ _ _ _ _ _ _ _ _ (sym (c .before .run-areas .ensures) ∙ not-true _ (c .if1 .taken))
 
--- src/lib.rt:273:9
 returns-2 : tie.Need-returns-2
-returns-2 c = ?
+returns-2 c = extent-not _ _ _ _ _ _ _ _ _ _ (sym (c .before .before .run-areas .ensures) ∙ not-false _ (c .before .if1 .left)) (ne-eqb _ _ (c .if2 .taken))
 
--- src/lib.rt:275:9
 restart-areas-requires : tie.Need-restart-areas-requires
 restart-areas-requires c κs = search needs
 
--- src/lib.rt:276:9
 returns-3 : tie.Need-returns-3
-returns-3 c = ?
+returns-3 c = restart-not _ _ _ _ _ _ _ _ _ _ (sym (c .before .before .before .before .run-areas .ensures) ∙ not-false _ (c .before .before .before .if1 .left)) (eq-eqb _ _ (c .before .before .if2 .left)) (sym (c .before .restart-areas .ensures) ∙ not-true _ (c .if3 .taken))
 
--- src/lib.rt:278:5
 mul-result : tie.Need-mul-result
-mul-result c = ?
+mul-result c =
+    let a = c .before .before .before .before .before .args in
+    let few = limit-low (a .chain) (a .arguments) (a .storage) (a .image) (a .faults) (a .extent) (a .limit) (a .program) (a .restarts) (a .list) (sym (c .before .before .before .before .run-areas .ensures) ∙ not-false _ (c .before .before .before .if1 .left)) in
+    omega arith
 
--- src/lib.rt:255:1
 returns-4 : tie.Need-returns-4
-returns-4 c = ?
+returns-4 c = list-left _ _ _ _ _ _ _ _ _ _ (sym (c .before .before .before .before .run-areas .ensures) ∙ not-false _ (c .before .before .before .if1 .left)) (eq-eqb _ _ (c .before .before .if2 .left)) (sym (c .before .restart-areas .ensures) ∙ not-false _ (c .if3 .left))
 
 pub areas-fit-spec : {M : Type 1} → statement M
 areas-fit-spec =

@@ -1,87 +1,95 @@
+-- `whole::read` meets its contract: the questions in order, the first run, and all that follow it. Assumes nothing.
+use native.Mathlib.Omega.{arith}
+use mathlib.Core.Path.{_≡_, refl, sym, _∙_}
+use borrow.Author.Tests.{not-true, not-false}
+use Rattle.faults.proofs.Sound.{sound-is}
+use Rattle.trial.proofs.Calls.{listed, low-chain}
+use Rattle.whole.specs.On.{lentAreas}
+use Rattle.whole.proofs.Calls.{areas-say, wrong-areas, ill-image, ill-faults, off-pack, read-so}
 use borrow.Author.Needs.{needs}
 use Rattle.whole.proofs.read.Statement.{statement}
 use Rattle.whole.proofs.read.Tie as tie
-use Rattle.whole.proofs.read.Reads as reads
-use Rattle.whole.proofs.read.Lts as lts
-use Rattle.address.proofs.Extent.on_pack.Reads as on-pack-reads
-use Rattle.address.proofs.extent_of.Reads as extent-of-reads
-use Rattle.faults.proofs.sound_faults.Reads as sound-faults-reads
-use Rattle.image.proofs.well_formed.Reads as well-formed-reads
-use Rattle.trial.proofs.run_from.Reads as run-from-reads
-use Rattle.whole.proofs.areas_fit.Reads as areas-fit-reads
-use Rattle.whole.proofs.read_on.Reads as read-on-reads
 
--- src/lib.rt:297:9
 areas-fit-requires : tie.Need-areas-fit-requires
 areas-fit-requires c κs = search needs
 
--- src/lib.rt:309:9
 returns : tie.Need-returns
-returns c = ?
+returns c =
+    let a = c .before .before .before .before .before .before .before .before .before .before .before .args in
+    (wrong-areas (a .chain .now) (a .arguments .now) (a .storage .now) (a .image .now) (a .faults .now) (a .extent .now) (a .limit) (a .program .now) (a .restarts .now) (a .list .now) (sym (c .before .areas-fit .ensures) ∙ not-true _ (c .if1 .taken)), tt)
 
--- src/lib.rt:311:9
 well-formed-requires : tie.Need-well-formed-requires
 well-formed-requires c κs = search needs
 
--- src/lib.rt:312:9
 returns-2 : tie.Need-returns-2
-returns-2 c = ?
+returns-2 c =
+    let a = c .before .before .before .before .before .before .before .before .before .before .before .before .before .args in
+    (ill-image (a .chain .now) (a .arguments .now) (a .storage .now) (a .image .now) (a .faults .now) (a .extent .now) (a .limit) (a .program .now) (a .restarts .now) (a .list .now) (sym (c .before .before .before .areas-fit .ensures) ∙ not-false _ (c .before .before .if1 .left)) (sym (c .before .well-formed .ensures) ∙ not-true _ (c .if2 .taken)), tt)
 
--- src/lib.rt:314:9
 sound-faults-requires : tie.Need-sound-faults-requires
 sound-faults-requires c κs = search needs
 
--- src/lib.rt:315:9
 returns-3 : tie.Need-returns-3
-returns-3 c = ?
+returns-3 c =
+    let a = c .before .before .before .before .before .before .before .before .before .before .before .before .before .before .before .args in
+    let w = sym (c .before .before .before .well-formed .ensures) ∙ not-false _ (c .before .before .if2 .left) in
+    (ill-faults (a .chain .now) (a .arguments .now) (a .storage .now) (a .image .now) (a .faults .now) (a .extent .now) (a .limit) (a .program .now) (a .restarts .now) (a .list .now) (sym (c .before .before .before .before .before .areas-fit .ensures) ∙ not-false _ (c .before .before .before .before .if1 .left)) w (sound-is _ _ _ w (c .before .sound-faults .ensures) (not-true _ (c .if3 .taken))), tt)
 
--- src/lib.rt:317:9
 extent-of-requires : tie.Need-extent-of-requires
-extent-of-requires c κs = ?
+extent-of-requires c κs = areas-say _ _ _ _ _ _ _ _ _ _ (sym (c .before .before .before .before .before .areas-fit .ensures) ∙ not-false _ (c .before .before .before .before .if1 .left)) .extent-full
 
--- src/lib.rt:318:9
 on-pack-requires : tie.Need-on-pack-requires
 on-pack-requires c κs = search needs
 
--- src/lib.rt:319:9
 returns-4 : tie.Need-returns-4
-returns-4 c = ?
+returns-4 c =
+    let a = c .before .before .before .before .before .before .before .before .before .before .before .before .before .before .before .before .before .before .args in
+    let w = sym (c .before .before .before .before .before .before .well-formed .ensures) ∙ not-false _ (c .before .before .before .before .before .if2 .left) in
+    let l = listed _ _ (sound-is _ _ _ w (c .before .before .before .before .sound-faults .ensures) (not-false _ (c .before .before .before .if3 .left))) in
+    (off-pack (a .chain .now) (a .arguments .now) (a .storage .now) (a .image .now) (a .faults .now) (a .extent .now) (a .limit) (a .program .now) (a .restarts .now) (a .list .now) (sym (c .before .before .before .before .before .before .before .before .areas-fit .ensures) ∙ not-false _ (c .before .before .before .before .before .before .before .if1 .left)) w (l .0) (l .1) (l .2) _ (c .before .before .extent-of .ensures) (sym (c .before .on-pack .ensures) ∙ not-true _ (c .if4 .taken)), tt)
 
--- src/lib.rt:324:9
 slice-aggregate-run-from : tie.Need-slice-aggregate-run-from
 slice-aggregate-run-from c = search needs
 
--- src/lib.rt:325:9
 slice-aggregate-run-from-2 : tie.Need-slice-aggregate-run-from-2
 slice-aggregate-run-from-2 c = search needs
 
--- src/lib.rt:321:9
 run-from-requires : tie.Need-run-from-requires
-run-from-requires c κs = ?
+run-from-requires c κs =
+    let w = sym (c .before .before .before .before .before .before .before .before .before .well-formed .ensures) ∙ not-false _ (c .before .before .before .before .before .before .before .before .if2 .left) in
+    let fit = areas-say _ _ _ _ _ _ _ _ _ _ (sym (c .before .before .before .before .before .before .before .before .before .before .before .areas-fit .ensures) ∙ not-false _ (c .before .before .before .before .before .before .before .before .before .before .if1 .left)) in
+    (record { short = (fit .chain-short, omega arith); whole = w; listed = listed _ _ (sound-is _ _ _ w (c .before .before .before .before .before .before .before .sound-faults .ensures) (not-false _ (c .before .before .before .before .before .before .if3 .left))) }, low-chain)
 
--- src/lib.rt:332:19
 read-on-requires : tie.Need-read-on-requires
-read-on-requires c κs = ?
+read-on-requires c κs =
+    let w = sym (c .before .before .before .before .before .before .before .before .before .before .before .before .before .before .before .before .well-formed .ensures) ∙ not-false _ (c .before .before .before .before .before .before .before .before .before .before .before .before .before .before .before .if2 .left) in
+    let fit = areas-say _ _ _ _ _ _ _ _ _ _ (sym (c .before .before .before .before .before .before .before .before .before .before .before .before .before .before .before .before .before .before .areas-fit .ensures) ∙ not-false _ (c .before .before .before .before .before .before .before .before .before .before .before .before .before .before .before .before .before .if1 .left)) in (
+      record { short = (fit .chain-short, omega (arith, fit .program-full)); whole = w; listed = listed _ _ (sound-is _ _ _ w (c .before .before .before .before .before .before .before .before .before .before .before .before .before .before .sound-faults .ensures) (not-false _ (c .before .before .before .before .before .before .before .before .before .before .before .before .before .if3 .left))) },
+      (
+        record { chain-short = fit .chain-short; program-full = fit .program-full; restarts-full = fit .restarts-full },
+        (c .before .before .before .before .before .before .run-from .ensures .1, (fit .few, fit .room)),
+      ),
+    )
 
--- src/lib.rt:282:1
 same-length : tie.Need-same-length
 same-length c = search needs
 
--- src/lib.rt:282:1
 same-length-2 : tie.Need-same-length-2
 same-length-2 c = search needs
 
--- src/lib.rt:282:1
 same-length-3 : tie.Need-same-length-3
 same-length-3 c = search needs
 
--- src/lib.rt:282:1
 same-length-4 : tie.Need-same-length-4
 same-length-4 c = search needs
 
--- src/lib.rt:282:1
 returns-5 : tie.Need-returns-5
-returns-5 c = ?
+returns-5 c =
+    let a = c .before .before .before .before .before .before .before .before .before .before .before .before .before .before .before .before .before .before .before .before .before .before .before .before .before .before .before .before .before .before .before .before .before .before .before .before .before .args in
+    let w = sym (c .before .before .before .before .before .before .before .before .before .before .before .before .before .before .before .before .before .before .before .before .before .before .before .before .before .well-formed .ensures) ∙ not-false _ (c .before .before .before .before .before .before .before .before .before .before .before .before .before .before .before .before .before .before .before .before .before .before .before .before .if2 .left) in
+    let l = listed _ _ (sound-is _ _ _ w (c .before .before .before .before .before .before .before .before .before .before .before .before .before .before .before .before .before .before .before .before .before .before .before .sound-faults .ensures) (not-false _ (c .before .before .before .before .before .before .before .before .before .before .before .before .before .before .before .before .before .before .before .before .before .before .if3 .left))) in
+    let on = c .before .before .before .before .before .before .before .before .read-on in
+    (read-so (a .chain .now) (a .arguments .now) (a .storage .now) (a .image .now) (a .faults .now) (a .extent .now) (a .limit) (a .program .now) (a .restarts .now) (a .list .now) (sym (c .before .before .before .before .before .before .before .before .before .before .before .before .before .before .before .before .before .before .before .before .before .before .before .before .before .before .before .areas-fit .ensures) ∙ not-false _ (c .before .before .before .before .before .before .before .before .before .before .before .before .before .before .before .before .before .before .before .before .before .before .before .before .before .before .if1 .left)) w (l .0) (l .1) (l .2) _ (c .before .before .before .before .before .before .before .before .before .before .before .before .before .before .before .before .before .before .before .before .before .extent-of .ensures) (sym (c .before .before .before .before .before .before .before .before .before .before .before .before .before .before .before .before .before .before .before .before .on-pack .ensures) ∙ not-false _ (c .before .before .before .before .before .before .before .before .before .before .before .before .before .before .before .before .before .before .before .if4 .left)) (c .before .before .before .before .before .before .before .before .before .before .before .before .before .before .before .run-from .result) _ (c .before .before .before .before .before .before .before .before .before .before .before .before .before .before .before .run-from .ensures .0) (on .result) _ (on .ensures .0), on .ensures .1)
 
 pub read-spec : {M : Type 1} → statement M
 read-spec =

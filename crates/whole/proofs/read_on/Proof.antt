@@ -103,8 +103,10 @@ after-cut-requires c κs =
     let begun = start .pre .0 in
     let lent = start .pre .1 .0 in (
       record { short = (begun .short .0, omega (arith, at .inv .2, begun .short .1)); whole = begun .whole; listed = begun .listed },
-      (record { chain-short = lent .chain-short; program-full = at .inv .2 ∙ lent .program-full; restarts-full = at .inv .3 ∙ lent .restarts-full },
-      (rw (c .before .before .before .before .before .before .before .ran3 .given .1) at (at .inv .5), omega (arith, at .inv .0, at .inv .4, start .pre .1 .1 .1 .1, c .before .before .before .before .if1 .left)))
+      (
+        record { chain-short = lent .chain-short; program-full = at .inv .2 ∙ lent .program-full; restarts-full = at .inv .3 ∙ lent .restarts-full },
+        (rw (c .before .before .before .before .before .before .before .ran3 .given .1) at (at .inv .5), omega (arith, at .inv .0, at .inv .4, start .pre .1 .1 .1 .1, c .before .before .before .before .if1 .left)),
+      ),
     )
 
 enum-known-r : tie.Need-enum-known-r Inv-loop μ-loop
@@ -120,10 +122,15 @@ loop-again : tie.Need-loop-again Inv-loop μ-loop
 loop-again c =
     let a = c .before .before .before .before .before .before .before .before .before .before .before .before .before .before .before .before .before .before .before .before .before .before .before .before .before .before .before .before .before .before .args in
     let at = c .before .before .before .before .before .before .before .before .before .before .before .before .before .before .before .before .before .before .before .before .before .loop in
-    let cut = rw (c .before .before .before .before .before .before .before .before .before .before .before .before .before .before .before .before .before .before .before .ran3 .given .1) at (at .inv .6) in
-    (omega (arith, at .inv .0, c .before .before .before .before .before .before .before .before .before .before .before .before .before .before .before .before .if1 .left), c .before .before .before .before .before .before .before .before .before .before .storage .given ∙ at .inv .1, c .before .before .before .before .before .before .before .before .program .given ∙ at .inv .2, c .before .before .before .before .before .before .restarts .given ∙ at .inv .3, c .before .before .before .before .list .given ∙ at .inv .4,
-    rw (c .before .r .given .1) at (c .before .before .before .before .before .before .before .before .before .before .before .after-cut .ensures .1),
-    on-again (a .chain .now) (a .arguments .now) (a .image .now) (a .faults .now) (a .x) (a .limit) (a .first) (lentAreas (a .storage .now) (a .program .now) (a .restarts .now) (a .list .now)) _ _ (c .before .before .before .before .before .before .before .before .before .before .before .before .before .before .before .before .before .before .before .ran3 .given .0 .0) cut (at .inv .0) (c .before .before .before .before .before .before .before .before .before .before .before .before .before .before .before .before .if1 .left) (c .before .r .given .0 .0) _ (rw (c .before .r .given .1) at (c .before .before .before .before .before .before .before .before .before .before .before .after-cut .ensures .0)))
+    let cut = rw (c .before .before .before .before .before .before .before .before .before .before .before .before .before .before .before .before .before .before .before .ran3 .given .1) at (at .inv .6) in (
+      omega (arith, at .inv .0, c .before .before .before .before .before .before .before .before .before .before .before .before .before .before .before .before .if1 .left),
+      c .before .before .before .before .before .before .before .before .before .before .storage .given ∙ at .inv .1,
+      c .before .before .before .before .before .before .before .before .program .given ∙ at .inv .2,
+      c .before .before .before .before .before .before .restarts .given ∙ at .inv .3,
+      c .before .before .before .before .list .given ∙ at .inv .4,
+      rw (c .before .r .given .1) at (c .before .before .before .before .before .before .before .before .before .before .before .after-cut .ensures .1),
+      on-again (a .chain .now) (a .arguments .now) (a .image .now) (a .faults .now) (a .x) (a .limit) (a .first) (lentAreas (a .storage .now) (a .program .now) (a .restarts .now) (a .list .now)) _ _ (c .before .before .before .before .before .before .before .before .before .before .before .before .before .before .before .before .before .before .before .ran3 .given .0 .0) cut (at .inv .0) (c .before .before .before .before .before .before .before .before .before .before .before .before .before .before .before .before .if1 .left) (c .before .r .given .0 .0) _ (rw (c .before .r .given .1) at (c .before .before .before .before .before .before .before .before .before .before .before .after-cut .ensures .0)),
+    )
 
 enum-known-w : tie.Need-enum-known-w Inv-loop μ-loop
 enum-known-w c = search needs
