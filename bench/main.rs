@@ -1,5 +1,5 @@
 //! The proved library against the simulator, in the same process: checking images, running chains,
-//! recovering.
+//! recovering, whole readings.
 //!
 //! Prints times and ratios; no time makes it fail.
 
@@ -9,6 +9,7 @@ mod library;
 mod simulator;
 
 mod images;
+mod readings;
 mod recoveries;
 mod runs;
 mod times;
@@ -17,4 +18,5 @@ fn main() {
     images::print();
     runs::print();
     recoveries::print();
+    readings::print();
 }

@@ -18,19 +18,25 @@ impl Times {
     }
 }
 
-/// Both in turn, so that a change of the machine's load meets both.
 pub fn measured(
     calls: u32,
     mut library: impl FnMut() -> u8,
     mut simulator: impl FnMut() -> u8,
 ) -> Times {
-    let mut least = Times {
-        library: f64::INFINITY,
-        simulator: f64::INFINITY,
-    };
+    let [library, simulator] = least(calls, [&mut library, &mut simulator]);
+    Times { library, simulator }
+}
+
+/// Nanoseconds for one call of each; all in turn, so that a change of the machine's load meets all.
+pub fn least<const ENTRIES: usize>(
+    calls: u32,
+    mut entries: [&mut dyn FnMut() -> u8; ENTRIES],
+) -> [f64; ENTRIES] {
+    let mut least = [f64::INFINITY; ENTRIES];
     for _ in 0..REPEATS {
-        least.library = least.library.min(nanoseconds(calls, &mut library));
-        least.simulator = least.simulator.min(nanoseconds(calls, &mut simulator));
+        for (least, entry) in least.iter_mut().zip(&mut entries) {
+            *least = least.min(nanoseconds(calls, entry));
+        }
     }
     least
 }

@@ -1,6 +1,6 @@
 #!/usr/bin/env bash
-# Builds the proved library and runs every test but the proofs: the simulator's own tests, the hand-written cases of runs and of
-# recoveries on simulator and library, then library against simulator.
+# Builds the proved library and runs every test but the proofs: the simulator's own tests, the hand-written cases of runs, of
+# recoveries and of whole readings on simulator and library, then library against simulator.
 set -euo pipefail
 cd "$(dirname "${BASH_SOURCE[0]}")/.."
 
@@ -12,5 +12,7 @@ rustc --edition 2021 tests/run_cases.rs "${library[@]}" -o target/run_cases
 target/run_cases tests/cases/run
 rustc --edition 2021 tests/recover_cases.rs "${library[@]}" -o target/recover_cases
 target/recover_cases tests/cases/recover
+rustc --edition 2021 tests/reading_cases.rs "${library[@]}" -o target/reading_cases
+target/reading_cases tests/cases/reading
 rustc -O --edition 2021 tests/differential/main.rs "${library[@]}" -o target/differential
 target/differential

@@ -12,14 +12,22 @@ mod chains;
 #[allow(dead_code, unused_imports)]
 #[path = "differential/damage/mod.rs"]
 mod damage;
+#[path = "differential/demand.rs"]
+mod demand;
 #[allow(dead_code)]
 #[path = "differential/generate.rs"]
 mod generate;
+#[allow(dead_code)]
+#[path = "differential/lendings/mod.rs"]
+mod lendings;
 #[allow(dead_code)]
 #[path = "differential/marks.rs"]
 mod marks;
 #[path = "differential/random.rs"]
 mod random;
+#[allow(dead_code, unused_imports)]
+#[path = "differential/reading_marks/mod.rs"]
+mod reading_marks;
 #[allow(dead_code, unused_imports)]
 #[path = "differential/recovery_marks/mod.rs"]
 mod recovery_marks;

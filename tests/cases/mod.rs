@@ -1,5 +1,5 @@
 //! Runs written by hand: what is lent and what must come out. `reader` says how they are written;
-//! `recovery` has recoveries in the same way.
+//! `recovery` has recoveries and `reading` whole readings in the same way.
 //!
 //! Nothing here knows what is run; a `Runner` does that.
 
@@ -7,6 +7,7 @@
 #![allow(dead_code)]
 
 pub mod reader;
+pub mod reading;
 pub mod recovery;
 mod text;
 

@@ -115,6 +115,19 @@ impl Statement<'_> {
         }
     }
 
+    /// A decimal number, and what stands behind it.
+    pub fn number_first(&self) -> Result<(usize, Statement<'_>), String> {
+        let Some((value, rest)) = self.values.split_first() else {
+            return Err(self.error("a number is wanted"));
+        };
+        let number = value.parse().map_err(|_| self.error("no decimal number"))?;
+        let rest = Statement {
+            values: rest.to_vec(),
+            ..*self
+        };
+        Ok((number, rest))
+    }
+
     /// The seven bytes behind the first one, 00.
     pub fn csw(&self) -> Result<[u8; 8], String> {
         let mut csw = [0; 8];

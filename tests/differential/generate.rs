@@ -4,7 +4,9 @@ use crate::random::Random;
 use crate::simulator::encode;
 use crate::simulator::faults::{Fault, FAULT};
 use crate::simulator::large::track_at;
-use crate::simulator::pack::{Pack, TrackAddress, HOME_ADDRESS, LAST_HEAD, LONGEST_RECORD, RECORD};
+use crate::simulator::pack::{
+    Pack, Record, TrackAddress, HOME_ADDRESS, LAST_HEAD, LONGEST_RECORD, RECORD,
+};
 use crate::simulator::LAST_CYLINDER;
 use std::collections::BTreeSet;
 
@@ -47,7 +49,7 @@ pub fn decoded(image: &[u8]) -> Pack<'_> {
 
 /// Tracks of a cylinder, and of the pack.
 const HEADS: usize = LAST_HEAD as usize + 1;
-const TRACKS: usize = (LAST_CYLINDER as usize + 1) * HEADS;
+pub const TRACKS: usize = (LAST_CYLINDER as usize + 1) * HEADS;
 
 /// Key length and data length.
 type Lengths = (usize, usize);
@@ -209,30 +211,43 @@ pub fn ground(random: &mut Random) -> Draft {
 
 /// Faults of some records that may have one, in any order, at least one where there is such.
 pub fn faults(random: &mut Random, pack: &Pack) -> Draft {
-    let mut targets: Vec<_> = pack
-        .tracks()
-        .flat_map(|(_, records)| records)
-        .filter(|record| record.number() != 0 && !record.data.is_empty())
-        .collect();
+    let mut targets = faultable(pack);
     random.shuffle(&mut targets);
     if !targets.is_empty() {
         let most = targets.len().min(random.pick(&[1, 4, 40]));
         targets.truncate(random.within(1..=most));
     }
-    targets
-        .iter()
-        .map(|record| {
-            let data_length = record.data.len();
-            let anywhere = random.within(1..=data_length);
-            let fault = Fault {
-                track: record.track(),
-                number: record.number(),
-                error_displacement: random.pick(&[1, data_length, anywhere]) as u16,
-                pattern: [random.byte(), random.byte(), random.byte()],
-            };
-            DraftField::new(FAULT, encode::fault(fault))
-        })
+    faults_of(random, &targets)
+}
+
+/// Faults of most records that may have one, or of all, in any order.
+pub fn many_faults(random: &mut Random, pack: &Pack) -> Draft {
+    let mut targets = faultable(pack);
+    random.shuffle(&mut targets);
+    let spared = random.pick(&[0, 0, targets.len() / 4, targets.len() / 2]);
+    faults_of(random, &targets[spared..])
+}
+
+fn faultable<'p>(pack: &'p Pack) -> Vec<&'p Record<'p>> {
+    pack.tracks()
+        .flat_map(|(_, records)| records)
+        .filter(|record| record.number() != 0 && !record.data.is_empty())
         .collect()
+}
+
+fn faults_of(random: &mut Random, records: &[&Record]) -> Draft {
+    let fault_of = |record: &&Record| {
+        let data_length = record.data.len();
+        let anywhere = random.within(1..=data_length);
+        let fault = Fault {
+            track: record.track(),
+            number: record.number(),
+            error_displacement: random.pick(&[1, data_length, anywhere]) as u16,
+            pattern: [random.byte(), random.byte(), random.byte()],
+        };
+        DraftField::new(FAULT, encode::fault(fault))
+    };
+    records.iter().map(fault_of).collect()
 }
 
 /// First and last track, with the pack's own edges and single tracks often.
@@ -245,6 +260,11 @@ pub fn extent(random: &mut Random) -> Vec<u8> {
         }
     });
     places.sort();
+    extent_of(places)
+}
+
+/// From one place of the pack to another.
+pub fn extent_of(places: [usize; 2]) -> Vec<u8> {
     places
         .map(|place| encode::track_address(track_at(place)))
         .concat()

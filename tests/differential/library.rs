@@ -75,6 +75,29 @@ extern "C" {
         answer: *mut u8,
         answer_len: usize,
     ) -> u8;
+    fn giruve_reading(
+        chain: *const u8,
+        chain_len: usize,
+        arguments: *const u8,
+        arguments_len: usize,
+        storage: *mut u8,
+        storage_len: usize,
+        image: *const u8,
+        image_len: usize,
+        faults: *const u8,
+        faults_len: usize,
+        extent: *const u8,
+        extent_len: usize,
+        limit: usize,
+        program: *mut u8,
+        program_len: usize,
+        restart_arguments: *mut u8,
+        restart_arguments_len: usize,
+        list: *mut u8,
+        list_len: usize,
+        answer: *mut u8,
+        answer_len: usize,
+    ) -> u8;
 }
 
 /// What a run answers where no question refuses it.
@@ -121,6 +144,28 @@ pub struct RecoveryAreas<'a> {
     pub extent: &'a mut [u8],
     pub storage: &'a mut [u8],
     pub restart: RestartAreas<'a>,
+}
+
+/// What a reading answers besides `ENDED` and `LIMIT` where no question refuses it.
+pub const STOPPED: u8 = 11;
+
+/// Bytes of the area that a reading answers in: CSW, number of recoveries, the number that stopped
+/// it.
+pub const READING_ANSWER: usize = 8 + 2 + 1;
+
+/// Bytes of the list for each recovery: action, cylinder, head, R.
+pub const RECOVERY_ENTRY: usize = 1 + 2 + 2 + 1;
+
+/// The first of them.
+pub const ACTION_5: u8 = 0x05;
+pub const ACTION_5A: u8 = 0x15;
+
+/// The areas of a reading but the one that it answers in.
+pub struct ReadingAreas<'a> {
+    pub run: RunAreas<'a>,
+    pub extent: &'a mut [u8],
+    pub restart: RestartAreas<'a>,
+    pub list: &'a mut [u8],
 }
 
 // Every call below is given areas that are valid for the lengths beside them and do not overlap;
@@ -220,6 +265,34 @@ pub fn recover(areas: RecoveryAreas, answer: &mut [u8]) -> u8 {
             areas.restart.program.len(),
             areas.restart.arguments.as_mut_ptr(),
             areas.restart.arguments.len(),
+            answer.as_mut_ptr(),
+            answer.len(),
+        )
+    }
+}
+
+pub fn read(areas: ReadingAreas, limit: usize, answer: &mut [u8]) -> u8 {
+    unsafe {
+        giruve_reading(
+            areas.run.chain.as_mut_ptr(),
+            areas.run.chain.len(),
+            areas.run.arguments.as_mut_ptr(),
+            areas.run.arguments.len(),
+            areas.run.storage.as_mut_ptr(),
+            areas.run.storage.len(),
+            areas.run.image.as_mut_ptr(),
+            areas.run.image.len(),
+            areas.run.faults.as_mut_ptr(),
+            areas.run.faults.len(),
+            areas.extent.as_mut_ptr(),
+            areas.extent.len(),
+            limit,
+            areas.restart.program.as_mut_ptr(),
+            areas.restart.program.len(),
+            areas.restart.arguments.as_mut_ptr(),
+            areas.restart.arguments.len(),
+            areas.list.as_mut_ptr(),
+            areas.list.len(),
             answer.as_mut_ptr(),
             answer.len(),
         )

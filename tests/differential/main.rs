@@ -12,12 +12,16 @@ mod cases;
 mod chains;
 mod compare;
 mod damage;
+mod demand;
 mod exhaustive;
 mod generate;
+mod lendings;
 mod library;
 mod limits;
 mod marks;
 mod random;
+mod reading_marks;
+mod readings;
 mod recoveries;
 mod recovery_marks;
 mod reports;
@@ -56,11 +60,21 @@ fn main() -> ExitCode {
         println!("never seen: {}", never_seen.join(", "));
         return ExitCode::FAILURE;
     }
+    let too_few = tally.too_few();
+    if !too_few.is_empty() {
+        println!("too few: {}", too_few.join(", "));
+        return ExitCode::FAILURE;
+    }
     println!(
-        "{} inputs compared, {} of them runs and {} recoveries, 0 disagreements",
+        "{} inputs compared, {} of them runs, {} recoveries and {} readings, 0 disagreements",
         tally.compared,
         tally.runs(),
-        tally.recoveries()
+        tally.recoveries(),
+        tally.readings()
+    );
+    println!(
+        "{} readings began, {} with two recoveries or more; demand 3 held of {}, {} with two or more",
+        tally.begun.all, tally.begun.of_two, tally.met.all, tally.met.of_two
     );
     ExitCode::SUCCESS
 }
@@ -76,7 +90,8 @@ fn compare_all(comparison: &mut Comparison, random: &mut Random) -> Result<(), D
     }
     limits::compare_all(comparison, random)?;
     runs::compare_all(comparison, random)?;
-    recoveries::compare_all(comparison, random)
+    recoveries::compare_all(comparison, random)?;
+    readings::compare_all(comparison, random)
 }
 
 fn well_formed(

@@ -1,6 +1,7 @@
-//! How often each answer, each broken rule and each mark of a run or a recovery was seen.
+//! How often each answer, each broken rule and each mark of a run, a recovery or a reading was seen.
 
 use crate::marks::Mark;
+use crate::reading_marks::ReadingMark;
 use crate::recovery_marks::RecoveryMark;
 use crate::simulator::areas::Area;
 use crate::simulator::extent::ExtentRule;
@@ -52,7 +53,12 @@ pub const RECOVER: Call = Call {
     answers: &[0, 1, 4, 5, 6, 7, 8, 9],
 };
 
-const CALLS: [Call; 8] = [
+pub const READING: Call = Call {
+    name: "giruve_reading",
+    answers: &[0, 1, 2, 3, 5, 10, 11],
+};
+
+const CALLS: [Call; 9] = [
     CHECK_IMAGE,
     CHECK_FAULTS,
     CHECK_EXTENT,
@@ -61,10 +67,35 @@ const CALLS: [Call; 8] = [
     RUN,
     RUN_RESTART,
     RECOVER,
+    READING,
 ];
 const RUN_CALLS: [Call; 2] = [RUN, RUN_RESTART];
 
+/// The fewest readings that are enough; of those that begin, and of those that meet the provisos of
+/// demand 3, one in three makes two recoveries or more.
+const FEWEST_READINGS: u64 = 100_000;
+const FEWEST_MET: u64 = 30_000;
+const TWO_RECOVERIES_ONCE_IN: u64 = 3;
+
 type Answers = BTreeMap<u8, u64>;
+
+/// Readings, and those of them with two recoveries or more.
+#[derive(Clone, Copy, Default)]
+pub struct Readings {
+    pub all: u64,
+    pub of_two: u64,
+}
+
+impl Readings {
+    fn count(&mut self, recoveries: usize) {
+        self.all += 1;
+        self.of_two += u64::from(recoveries >= 2);
+    }
+
+    fn have_two_often(self) -> bool {
+        self.of_two * TWO_RECOVERIES_ONCE_IN >= self.all
+    }
+}
 
 #[derive(Default)]
 pub struct Tally {
@@ -74,6 +105,11 @@ pub struct Tally {
     rules: BTreeMap<Refusal, u64>,
     marks: BTreeMap<(Call, Mark), u64>,
     recovery_marks: BTreeMap<RecoveryMark, u64>,
+    reading_marks: BTreeMap<ReadingMark, u64>,
+    /// Not refused.
+    pub begun: Readings,
+    /// Of these, where the provisos of demand 3 are met.
+    pub met: Readings,
 }
 
 impl Tally {
@@ -101,6 +137,21 @@ impl Tally {
         }
     }
 
+    /// Counts what a reading was marked by.
+    pub fn count_reading_marks(&mut self, marks: impl IntoIterator<Item = ReadingMark>) {
+        for mark in marks {
+            *self.reading_marks.entry(mark).or_default() += 1;
+        }
+    }
+
+    /// Counts a reading that was not refused.
+    pub fn count_reading(&mut self, recoveries: usize, provisos_met: bool) {
+        self.begun.count(recoveries);
+        if provisos_met {
+            self.met.count(recoveries);
+        }
+    }
+
     /// Runs compared.
     pub fn runs(&self) -> u64 {
         RUN_CALLS.iter().map(|&call| self.calls(call)).sum()
@@ -111,12 +162,17 @@ impl Tally {
         self.calls(RECOVER)
     }
 
+    /// Readings compared.
+    pub fn readings(&self) -> u64 {
+        self.calls(READING)
+    }
+
     fn calls(&self, call: Call) -> u64 {
         self.total(call).into_values().sum()
     }
 
     /// Prints how often each answer was seen, by call and by kind, each broken rule, and in how
-    /// many runs and recoveries each mark was.
+    /// many runs, recoveries and readings each mark was.
     pub fn print(&self) {
         for call in CALLS {
             println!("{:<36}{}", call.name, Counts(&self.total(call)));
@@ -139,6 +195,15 @@ impl Tally {
             let times = self.recoveries_with(mark);
             println!("  {:<58}{times:>10}", mark.to_string());
         }
+        println!("readings with");
+        for mark in ReadingMark::all() {
+            let times = self.readings_with(mark);
+            println!("  {:<58}{times:>10}", mark.to_string());
+        }
+    }
+
+    fn readings_with(&self, mark: ReadingMark) -> u64 {
+        self.reading_marks.get(&mark).copied().unwrap_or(0)
     }
 
     fn recoveries_with(&self, mark: RecoveryMark) -> u64 {
@@ -174,11 +239,38 @@ impl Tally {
             .into_iter()
             .filter(|&mark| self.recoveries_with(mark) == 0)
             .map(|mark| format!("{} with {mark}", RECOVER.name));
+        let reading_marks = ReadingMark::all()
+            .into_iter()
+            .filter(|&mark| self.readings_with(mark) == 0)
+            .map(|mark| format!("{} with {mark}", READING.name));
         answers
             .chain(rules)
             .chain(marks)
             .chain(recovery_marks)
+            .chain(reading_marks)
             .collect()
+    }
+
+    /// What there are too few readings of.
+    pub fn too_few(&self) -> Vec<&'static str> {
+        [
+            (self.readings() >= FEWEST_READINGS, "readings"),
+            (
+                self.begun.have_two_often(),
+                "readings with two recoveries or more",
+            ),
+            (
+                self.met.all >= FEWEST_MET,
+                "readings that meet the provisos of demand 3",
+            ),
+            (
+                self.met.have_two_often(),
+                "such readings with two recoveries or more",
+            ),
+        ]
+        .into_iter()
+        .filter_map(|(enough, of)| (!enough).then_some(of))
+        .collect()
     }
 
     fn kinds(&self, call: Call) -> impl Iterator<Item = (&(Call, &'static str), &Answers)> {

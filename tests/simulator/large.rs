@@ -39,6 +39,12 @@ pub fn track_at(place: usize) -> TrackAddress {
     }
 }
 
+/// The place of a track of the pack.
+pub fn place_of(track: TrackAddress) -> usize {
+    let heads = usize::from(LAST_HEAD) + 1;
+    usize::from(track.cylinder) * heads + usize::from(track.head)
+}
+
 /// Such tracks from 000/00 on, then one track more that fills `size` bytes, at least 27, exactly.
 pub fn image_of(size: usize, tracks: TracksOf) -> Vec<u8> {
     let each = HOME_ADDRESS_FIELD

@@ -32,6 +32,7 @@ pub mod fields;
 pub mod interrupted;
 pub mod large;
 pub mod pack;
+pub mod reading;
 pub mod recovery;
 pub mod report;
 pub mod restart;

@@ -23,7 +23,7 @@ pub struct Lent<'a> {
 }
 
 impl<'a> Lent<'a> {
-    fn check(&self, storage: usize, limit: usize) -> Result<(), Refusal> {
+    pub fn check(&self, storage: usize, limit: usize) -> Result<(), Refusal> {
         check_run(RunSizes {
             chain: self.chain.len(),
             arguments: self.arguments.len(),
@@ -34,7 +34,7 @@ impl<'a> Lent<'a> {
         })
     }
 
-    fn program(&self, restart: Option<Restart<'a>>) -> Program<'a> {
+    pub fn program(&self, restart: Option<Restart<'a>>) -> Program<'a> {
         Program {
             chain: self.chain,
             arguments: self.arguments,

@@ -14,11 +14,11 @@ use crate::random::Random;
 use crate::simulator::channel::Restart;
 use crate::simulator::run::{run_restarted_watched, run_watched, Lent, Outcome, Watch};
 use crate::simulator::{Refusal, LAST_CYLINDER};
-pub use change::changed_ccw;
+pub use change::{changed, changed_ccw, refused};
 pub use cut::{cut, cut_again, cut_long};
 use ground::Ground;
-pub use plan::planned;
-pub use scatter::COMMANDS;
+pub use plan::{planned, planned_long, planned_loop, planned_reads};
+pub use scatter::{random_bytes, random_ccws, COMMANDS};
 
 impl GeneratedRun {
     fn of(random: &mut Random, ground: Ground, chain: Vec<u8>, arguments: Vec<u8>) -> GeneratedRun {

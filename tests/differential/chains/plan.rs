@@ -27,14 +27,35 @@ pub fn planned_long(random: &mut Random) -> GeneratedRun {
 /// Up to here one more step and an end fit a chain.
 const ROOM_LEFT: usize = 1_800;
 
-/// A chain that begins and ends once.
+/// A chain of any steps.
 pub fn planned_on(random: &mut Random, ground: Ground) -> GeneratedRun {
+    let steps = random.pick(&[1, 3, 6, 10, 16, 24]);
+    of_steps(random, ground, steps, |plan| plan.step())
+}
+
+/// A chain that mostly reads.
+pub fn planned_reads(random: &mut Random) -> GeneratedRun {
+    let ground = Ground::new(random);
+    let steps = random.within(2..=30);
+    of_steps(random, ground, steps, |plan| match plan.random.below(6) {
+        0 => plan.step(),
+        1 => plan.search_once(),
+        _ => plan.read(FLAG_CHAIN_COMMAND),
+    })
+}
+
+/// A chain that begins and ends once, of so many steps or as many as it has room for.
+fn of_steps(
+    random: &mut Random,
+    ground: Ground,
+    steps: usize,
+    step: fn(&mut Plan),
+) -> GeneratedRun {
     let pack = ground.pack();
     let mut plan = Plan::new(random, &pack, ground.storage);
-    let steps = plan.random.pick(&[1, 3, 6, 10, 16, 24]);
     for _ in 0..steps {
         if plan.here() <= ROOM_LEFT {
-            plan.step();
+            step(&mut plan);
         }
     }
     plan.stop();

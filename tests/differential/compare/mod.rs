@@ -1,5 +1,6 @@
 //! One input given to library and simulator.
 
+mod reading;
 mod recovery;
 mod run;
 

@@ -12,7 +12,7 @@ use crate::simulator::recovery::{NotBuilt, RestartAction};
 use crate::simulator::report::ReportRule;
 use crate::simulator::table::{Action, TABLE};
 use crate::simulator::Refusal;
-pub use seen::marks_of;
+pub use seen::{kind_of_fate, marks_of};
 use std::fmt;
 
 #[derive(Clone, Copy, Debug, PartialEq, Eq, PartialOrd, Ord)]
@@ -50,6 +50,16 @@ rules! {
         NoMask,
         Zeros,
         Other,
+    }
+}
+
+impl MaskKind {
+    pub fn of(mask: Option<u8>) -> MaskKind {
+        match mask {
+            None => MaskKind::NoMask,
+            Some(0) => MaskKind::Zeros,
+            Some(_) => MaskKind::Other,
+        }
     }
 }
 

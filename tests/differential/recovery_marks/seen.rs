@@ -89,11 +89,7 @@ impl Marks {
     }
 
     fn restarted(&mut self, report: &Report, action: RestartAction) {
-        let mask = match report.mask {
-            None => MaskKind::NoMask,
-            Some(0) => MaskKind::Zeros,
-            Some(_) => MaskKind::Other,
-        };
+        let mask = MaskKind::of(report.mask);
         self.see(RecoveryMark::Masked(action, mask));
         self.meet_if(
             report.is_pci_fetch_mode(),
@@ -173,7 +169,7 @@ fn kind_of(answer: &Answer) -> AnswerKind {
     }
 }
 
-fn kind_of_fate(fate: Fate) -> PatternKind {
+pub fn kind_of_fate(fate: Fate) -> PatternKind {
     match fate {
         Fate::Stored(_) => PatternKind::Stored,
         Fate::PastTheDataArea => PatternKind::PastTheDataArea,

@@ -15,7 +15,7 @@ use crate::chains;
 use crate::damage::damaged_report;
 use crate::generate::{self, DraftField};
 use crate::random::Random;
-use crate::simulator::large::track_at;
+use crate::simulator::large::place_of;
 use crate::simulator::pack::{TrackAddress, LAST_HEAD};
 use crate::simulator::report::{self, Report};
 use crate::simulator::{encode, LAST_CYLINDER};
@@ -173,22 +173,18 @@ fn any_track(random: &mut Random) -> TrackAddress {
 
 /// An extent in which a track of the pack mostly lies, often at its edge.
 fn extent_around(random: &mut Random, track: TrackAddress) -> Vec<u8> {
-    let heads = usize::from(LAST_HEAD) + 1;
-    let last = (usize::from(LAST_CYLINDER) + 1) * heads - 1;
-    let place = usize::from(track.cylinder) * heads + usize::from(track.head);
-    let place = place.min(last);
-    let (first, last) = match random.below(12) {
+    let last = generate::TRACKS - 1;
+    let place = place_of(track).min(last);
+    let places = match random.below(12) {
         0 => return generate::extent(random),
-        1 => (0, place.saturating_sub(1)),
-        2 => ((place + 1).min(last), last),
-        3 | 4 => (place, place),
-        5 | 6 => (place, last),
-        7 | 8 => (0, place),
-        _ => (0, last),
+        1 => [0, place.saturating_sub(1)],
+        2 => [(place + 1).min(last), last],
+        3 | 4 => [place, place],
+        5 | 6 => [place, last],
+        7 | 8 => [0, place],
+        _ => [0, last],
     };
-    [first, last]
-        .map(|place| encode::track_address(track_at(place)))
-        .concat()
+    generate::extent_of(places)
 }
 
 #[cfg(test)]

@@ -1,0 +1,74 @@
+//! Areas and limits that question 1, 2, 3 or 5 answers no to, most of the time.
+
+use super::{cut_twice, GeneratedReading, ENTRY};
+use crate::chains;
+use crate::damage::{damaged_extent, damaged_faults, damaged_image};
+use crate::generate::{self, decoded, written};
+use crate::random::Random;
+
+/// Lengths of areas to answer in, all wrong.
+pub const ANSWER_AREAS: [usize; 4] = [0, 10, 12, 36];
+
+/// Bytes that a list has less than it must.
+pub const LIST_SHORT_BY: [usize; 3] = [1, 5, 6];
+
+/// What a run is refused for, and what a reading is besides, in turn.
+pub fn refused(random: &mut Random, turn: usize) -> (&'static str, GeneratedReading) {
+    let mut reading = cut_twice(random, chains::planned_reads);
+    if turn % 2 == 0 {
+        let extent = reading.extent.clone();
+        let (kind, run) = chains::refused(random, turn / 2, reading.into_run());
+        return (kind, GeneratedReading::of(random, run, extent));
+    }
+    let (kind, change) = AREAS[turn / 2 % AREAS.len()];
+    change(random, &mut reading);
+    (kind, reading)
+}
+
+type ToAreas = (&'static str, fn(&mut Random, &mut GeneratedReading));
+
+const AREAS: [ToAreas; 11] = [
+    ("image damaged", |random, reading| {
+        let (draft, turn) = (generate::ground(random), random.below(64));
+        reading.image = damaged_image(random, turn, &draft).1;
+    }),
+    ("fault list damaged", |random, reading| {
+        reading.image = written(&generate::ground(random));
+        let pack = decoded(&reading.image);
+        let (draft, turn) = (generate::faults(random, &pack), random.below(64));
+        reading.faults = damaged_faults(random, turn, &draft, &pack).1;
+    }),
+    ("extent damaged", |random, reading| {
+        let turn = random.below(16);
+        reading.extent = damaged_extent(random, turn, &reading.extent).1;
+    }),
+    ("extent damaged otherwise", |random, reading| {
+        let turn = random.below(16);
+        reading.extent = damaged_extent(random, turn, &reading.extent).1;
+    }),
+    ("extent and fault list damaged", |random, reading| {
+        reading.extent.rotate_left(4);
+        reading.faults.push(random.byte());
+    }),
+    ("extent and image damaged", |random, reading| {
+        reading.extent.rotate_left(4);
+        reading.image.push(random.byte());
+    }),
+    ("extent's length", |random, reading| {
+        reading.extent.resize(random.pick(&[0, 4, 7, 9, 16]), 0);
+    }),
+    ("restart program's length", |random, reading| {
+        reading.program.resize(random.pick(&[0, 16, 63, 65, 72]), 0);
+    }),
+    ("restart arguments' length", |random, reading| {
+        let length = random.pick(&[0, 8, 15, 17, 64]);
+        reading.restart_arguments.resize(length, 0);
+    }),
+    ("list's length", |random, reading| {
+        let must = ENTRY * reading.limit;
+        reading.list_length = must - random.pick(&LIST_SHORT_BY);
+    }),
+    ("answer's length", |random, reading| {
+        reading.answer_length = random.pick(&ANSWER_AREAS);
+    }),
+];

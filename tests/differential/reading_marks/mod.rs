@@ -1,0 +1,212 @@
+//! What is looked for in whole readings. Each mark must be seen.
+
+mod seen;
+
+use crate::demand::Proviso;
+use crate::lendings::{ANSWER_AREAS, LIST_SHORT_BY};
+use crate::recovery_marks::{MaskKind, PatternKind};
+use crate::simulator::areas::Area;
+use crate::simulator::channel::ProgramCheck;
+use crate::simulator::drive::{
+    NotFoundRule, RejectRule, UnitCheck, READ_COUNT_KEY_DATA, READ_DATA, READ_KEY_DATA,
+};
+use crate::simulator::extent::ExtentRule;
+use crate::simulator::faults::FaultRule;
+use crate::simulator::pack::ImageRule;
+use crate::simulator::reading::{End, LimitOf, Stop};
+use crate::simulator::recovery::RestartAction;
+use crate::simulator::{run, Refusal};
+pub use seen::marks_of;
+use std::fmt;
+
+#[derive(Clone, Copy, Debug, PartialEq, Eq, PartialOrd, Ord)]
+pub enum ReadingMark {
+    /// How it ended, and behind how many recoveries.
+    Ended(End, Behind),
+    Made(HowMany),
+    /// A recovery, and how it was answered.
+    Recovered(Order, Answered),
+    /// A restart, and the mask that it sets.
+    Masked(RestartAction, MaskKind),
+    /// The command of a read that was cut.
+    Cut(u8),
+    /// What became of a pattern byte.
+    Pattern(PatternKind),
+    Met(ReadingEvent),
+    /// So many recoveries where every proviso of demand 3 is met.
+    DemandThree(HowMany),
+    NotMet(Proviso),
+    /// A refusal, by the rule that decided.
+    Refused(Refusal),
+    /// Length of an area to answer in that is not as it must be.
+    AnswerArea(usize),
+    /// Bytes that the list has less than it must.
+    ListShortBy(usize),
+}
+
+rules! {
+    Behind {
+        NoRecovery,
+        OneRecovery,
+        MoreRecoveries,
+    }
+}
+
+rules! {
+    HowMany {
+        None,
+        One,
+        Two,
+        To9,
+        To99,
+        To255,
+        // Two bytes of the answer are not 0.
+        From256,
+    }
+}
+
+rules! {
+    Order {
+        First,
+        Later,
+    }
+}
+
+rules! {
+    Answered {
+        By5,
+        By5A,
+        Finished,
+        CorrectedOnly,
+    }
+}
+
+rules! {
+    ReadingEvent {
+        // Of two recoveries, one behind the other.
+        SameRecord,
+        OtherRecord,
+        OtherTrack,
+        FiveBehindFiveA,
+        FiveABehindFive,
+        // No mask at the first, a mask at the second.
+        MaskSetBetween,
+        // Of two recoveries with others between them.
+        SameRecordLater,
+        // And it ends otherwise than by a further cut.
+        AsManyAsTheLimit,
+        DataChained,
+        ListLongerThanItMustBe,
+    }
+}
+
+impl ReadingMark {
+    pub fn all() -> Vec<ReadingMark> {
+        let recovered = Order::ALL.iter().flat_map(|&order| {
+            let answered = Answered::ALL.iter();
+            answered.map(move |&answered| ReadingMark::Recovered(order, answered))
+        });
+        let masked = [RestartAction::Five, RestartAction::FiveA]
+            .into_iter()
+            .flat_map(|action| {
+                let kinds = MaskKind::ALL.iter();
+                kinds.map(move |&kind| ReadingMark::Masked(action, kind))
+            });
+        let takes_data = [READ_DATA, READ_KEY_DATA, READ_COUNT_KEY_DATA];
+        ended()
+            .into_iter()
+            .chain(HowMany::ALL.iter().copied().map(ReadingMark::Made))
+            .chain(recovered)
+            .chain(masked)
+            .chain(takes_data.map(ReadingMark::Cut))
+            .chain(PatternKind::ALL.iter().copied().map(ReadingMark::Pattern))
+            .chain(ReadingEvent::ALL.iter().copied().map(ReadingMark::Met))
+            .chain(HowMany::ALL.iter().copied().map(ReadingMark::DemandThree))
+            .chain(Proviso::ALL.iter().copied().map(ReadingMark::NotMet))
+            .chain(refusals().into_iter().map(ReadingMark::Refused))
+            .chain(ANSWER_AREAS.map(ReadingMark::AnswerArea))
+            .chain(LIST_SHORT_BY.map(ReadingMark::ListShortBy))
+            .collect()
+    }
+}
+
+/// Every end that there is, behind as many recoveries as it can be.
+fn ended() -> Vec<ReadingMark> {
+    let unit_checks = (RejectRule::ALL.iter().copied().map(UnitCheck::Reject))
+        .chain(
+            NotFoundRule::ALL
+                .iter()
+                .copied()
+                .map(UnitCheck::NoRecordFound),
+        )
+        .chain([UnitCheck::FileProtected]);
+    let of_runs = [
+        run::End::Chain,
+        run::End::IncorrectLength,
+        run::End::UnitException,
+    ];
+    let of_runs = (of_runs.into_iter())
+        .chain(
+            ProgramCheck::ALL
+                .iter()
+                .copied()
+                .map(run::End::ProgramCheck),
+        )
+        .chain(unit_checks.map(run::End::UnitCheck));
+    let no_next = [
+        ProgramCheck::PastTheChain,
+        ProgramCheck::NotAMultipleOf8,
+        ProgramCheck::TicToTic,
+    ];
+    let no_next = no_next.map(|check| Stop::Refused(Refusal::Next(check)));
+    let ends = (of_runs.map(End::Run))
+        .chain([End::Finished, End::CorrectedOnly])
+        .chain(LimitOf::ALL.iter().copied().map(End::Limit))
+        .chain([Stop::Action2].into_iter().chain(no_next).map(End::Stopped));
+    ends.flat_map(|end| {
+        let behind = Behind::ALL
+            .iter()
+            .filter(move |&&behind| can_be(end, behind));
+        behind.map(move |&behind| ReadingMark::Ended(end, behind))
+    })
+    .collect()
+}
+
+fn can_be(end: End, behind: Behind) -> bool {
+    match end {
+        // A restart begins with a seek.
+        End::Run(run::End::ProgramCheck(ProgramCheck::TicFirst)) => behind == Behind::NoRecovery,
+        End::Finished | End::CorrectedOnly | End::Limit(LimitOf::Recoveries) => {
+            behind != Behind::NoRecovery
+        }
+        _ => true,
+    }
+}
+
+/// By the rules of every question of a reading.
+fn refusals() -> Vec<Refusal> {
+    (Area::ALL.iter().copied().map(Refusal::Areas))
+        .chain(ImageRule::ALL.iter().copied().map(Refusal::Image))
+        .chain(FaultRule::ALL.iter().copied().map(Refusal::Faults))
+        .chain(ExtentRule::ALL.iter().copied().map(Refusal::Extent))
+        .collect()
+}
+
+impl fmt::Display for ReadingMark {
+    fn fmt(&self, out: &mut fmt::Formatter) -> fmt::Result {
+        match self {
+            ReadingMark::Ended(end, behind) => write!(out, "{end:?}, {behind:?}"),
+            ReadingMark::Made(how_many) => write!(out, "recoveries {how_many:?}"),
+            ReadingMark::Recovered(order, answered) => write!(out, "{order:?} cut {answered:?}"),
+            ReadingMark::Masked(action, kind) => write!(out, "restart {action:?}, {kind:?}"),
+            ReadingMark::Cut(command) => write!(out, "cut of a {command:02X}"),
+            ReadingMark::Pattern(kind) => write!(out, "pattern byte {kind:?}"),
+            ReadingMark::Met(event) => write!(out, "{event:?}"),
+            ReadingMark::DemandThree(how_many) => write!(out, "demand 3, recoveries {how_many:?}"),
+            ReadingMark::NotMet(proviso) => write!(out, "not met: {proviso:?}"),
+            ReadingMark::Refused(refusal) => write!(out, "refused by {refusal:?}"),
+            ReadingMark::AnswerArea(length) => write!(out, "answer area of {length} bytes"),
+            ReadingMark::ListShortBy(bytes) => write!(out, "list short by {bytes} bytes"),
+        }
+    }
+}

@@ -1,0 +1,243 @@
+//! Which marks a reading has.
+
+use super::{Answered, Behind, HowMany, Order, ReadingEvent, ReadingMark};
+use crate::demand::Proviso;
+use crate::lendings::{GeneratedReading, ENTRY};
+use crate::recovery_marks::{kind_of_fate, MaskKind};
+use crate::simulator::reading::{End, LimitOf, Reading, Recovery};
+use crate::simulator::recovery::{Answer, RestartAction};
+use std::collections::BTreeSet;
+
+/// The marks of a reading, as it was lent, that the simulator has not refused.
+pub fn marks_of(
+    lent: &GeneratedReading,
+    read: &Reading,
+    provisos: Result<(), Proviso>,
+) -> BTreeSet<ReadingMark> {
+    let made = read.recoveries.len();
+    let mut marks = BTreeSet::from([
+        ReadingMark::Ended(read.end, behind(made)),
+        ReadingMark::Made(how_many(made)),
+        match provisos {
+            Ok(()) => ReadingMark::DemandThree(how_many(made)),
+            Err(proviso) => ReadingMark::NotMet(proviso),
+        },
+    ]);
+    for (place, recovery) in read.recoveries.iter().enumerate() {
+        let order = match place {
+            0 => Order::First,
+            _ => Order::Later,
+        };
+        see_recovery(&mut marks, lent, order, recovery);
+    }
+    for (event, met) in events_of(lent, read) {
+        if met {
+            marks.insert(ReadingMark::Met(event));
+        }
+    }
+    marks
+}
+
+fn behind(made: usize) -> Behind {
+    match made {
+        0 => Behind::NoRecovery,
+        1 => Behind::OneRecovery,
+        _ => Behind::MoreRecoveries,
+    }
+}
+
+fn how_many(made: usize) -> HowMany {
+    match made {
+        0 => HowMany::None,
+        1 => HowMany::One,
+        2 => HowMany::Two,
+        3..=9 => HowMany::To9,
+        10..=99 => HowMany::To99,
+        100..=255 => HowMany::To255,
+        _ => HowMany::From256,
+    }
+}
+
+fn see_recovery(
+    marks: &mut BTreeSet<ReadingMark>,
+    lent: &GeneratedReading,
+    order: Order,
+    recovery: &Recovery,
+) {
+    let answered = match recovery.recovered.answer {
+        Answer::Finished(_) => Answered::Finished,
+        Answer::CorrectedOnly => Answered::CorrectedOnly,
+        Answer::Restart(RestartAction::FiveA) => Answered::By5A,
+        _ => Answered::By5,
+    };
+    marks.insert(ReadingMark::Recovered(order, answered));
+    marks.insert(ReadingMark::Cut(lent.chain[recovery.cut.first]));
+    if let Answer::Restart(action) = recovery.recovered.answer {
+        let kind = MaskKind::of(recovery.cut.mask);
+        marks.insert(ReadingMark::Masked(action, kind));
+    }
+    if let Some(correction) = &recovery.recovered.correction {
+        let kinds = correction.fates.map(kind_of_fate);
+        marks.extend(kinds.map(ReadingMark::Pattern));
+    }
+}
+
+fn events_of(lent: &GeneratedReading, read: &Reading) -> [(ReadingEvent, bool); 10] {
+    let by = |recovery: &Recovery| recovery.recovered.answer.clone();
+    let (five, five_a) = (RestartAction::Five, RestartAction::FiveA);
+    let (five, five_a) = (Answer::Restart(five), Answer::Restart(five_a));
+    let is_chained = |recovery: &Recovery| {
+        let correction = recovery.recovered.correction.as_ref();
+        correction.is_some_and(|correction| correction.read.stretches.len() > 1)
+    };
+    let next = |is_so: &dyn Fn(&Recovery, &Recovery) -> bool| {
+        let mut pairs = read.recoveries.windows(2);
+        pairs.any(|pair| is_so(&pair[0], &pair[1]))
+    };
+    let all_are_allowed = read.end != End::Limit(LimitOf::Recoveries);
+    [
+        (
+            ReadingEvent::SameRecord,
+            next(&|one, other| record(one) == record(other)),
+        ),
+        (
+            ReadingEvent::OtherRecord,
+            next(&|one, other| one.track() == other.track() && record(one) != record(other)),
+        ),
+        (
+            ReadingEvent::OtherTrack,
+            next(&|one, other| one.track() != other.track()),
+        ),
+        (
+            ReadingEvent::FiveBehindFiveA,
+            next(&|one, other| by(one) == five_a && by(other) == five),
+        ),
+        (
+            ReadingEvent::FiveABehindFive,
+            next(&|one, other| by(one) == five && by(other) == five_a),
+        ),
+        (
+            ReadingEvent::MaskSetBetween,
+            next(&|one, other| one.cut.mask.is_none() && other.cut.mask.is_some()),
+        ),
+        (ReadingEvent::SameRecordLater, comes_again(&read.recoveries)),
+        (
+            ReadingEvent::AsManyAsTheLimit,
+            all_are_allowed && read.recoveries.len() == lent.limit,
+        ),
+        (
+            ReadingEvent::DataChained,
+            read.recoveries.iter().any(is_chained),
+        ),
+        (
+            ReadingEvent::ListLongerThanItMustBe,
+            lent.list_length > ENTRY * lent.limit,
+        ),
+    ]
+}
+
+/// Sense 8 to 12.
+fn record(recovery: &Recovery) -> &[u8] {
+    &recovery.cut.sense[8..13]
+}
+
+/// Whether a record is recovered again with another one between.
+fn comes_again(recoveries: &[Recovery]) -> bool {
+    let mut before = BTreeSet::new();
+    recoveries.windows(2).any(|pair| {
+        let [one, other] = [&pair[0], &pair[1]].map(record);
+        before.insert(one);
+        one != other && before.contains(other)
+    })
+}
+
+#[cfg(test)]
+mod tests {
+    use super::*;
+    use crate::chains::GeneratedRun;
+    use crate::demand::Faultless;
+    use crate::random::Random;
+    use crate::simulator::encode::ccw;
+    use crate::simulator::{run, sample};
+
+    /// The marks of the sample with these CCWs behind its seek, both records faulted.
+    fn marks(limit: usize, ccws: &[[u8; 8]]) -> BTreeSet<ReadingMark> {
+        let mut chain = sample::CHAIN[..8].to_vec();
+        chain.extend(ccws.as_flattened());
+        let mut faults = sample::FAULTS.repeat(2);
+        faults[20] = 2;
+        let run = GeneratedRun {
+            chain,
+            arguments: [&sample::ARGUMENTS[..], &[0xC0]].concat(),
+            storage: vec![0; 16],
+            image: sample::IMAGE.to_vec(),
+            faults,
+            limit,
+            restart: None,
+        };
+        let mut lent = GeneratedReading::of(&mut Random::new(1), run, sample::EXTENT.to_vec());
+        lent.list_length = ENTRY * limit;
+        let read = lent.clone().simulated().expect("the sample is not refused");
+        let provisos = Faultless::of(&lent).map(|_| ());
+        let marks = marks_of(&lent, &read, provisos);
+        assert!(marks.iter().all(|mark| ReadingMark::all().contains(mark)));
+        marks
+    }
+
+    fn met(marks: &BTreeSet<ReadingMark>) -> Vec<ReadingEvent> {
+        let events = marks.iter().filter_map(|mark| match mark {
+            ReadingMark::Met(event) => Some(*event),
+            _ => None,
+        });
+        events.collect()
+    }
+
+    #[test]
+    fn two_reads() {
+        let marks = marks(2, &[ccw(0x06, 0, 0x40, 4), ccw(0x06, 4, 0, 4)]);
+        let expected = [
+            ReadingMark::Ended(End::Finished, Behind::MoreRecoveries),
+            ReadingMark::Made(HowMany::Two),
+            ReadingMark::NotMet(Proviso::EndsWithinTheLimit),
+            ReadingMark::Recovered(Order::First, Answered::By5A),
+            ReadingMark::Recovered(Order::Later, Answered::Finished),
+            ReadingMark::Masked(RestartAction::FiveA, MaskKind::NoMask),
+            ReadingMark::Cut(0x06),
+            ReadingMark::Pattern(crate::recovery_marks::PatternKind::Stored),
+            ReadingMark::Met(ReadingEvent::OtherRecord),
+            ReadingMark::Met(ReadingEvent::AsManyAsTheLimit),
+        ];
+        assert_eq!(marks, BTreeSet::from(expected));
+    }
+
+    #[test]
+    fn one_record_again() {
+        let again = [
+            ccw(0x06, 0, 0x40, 4),
+            ccw(0x1F, 11, 0x40, 1),
+            ccw(0x0E, 0, 0x40, 4),
+            ccw(0x1E, 0, 0x60, 4),
+            ccw(0x06, 0, 0x40, 4),
+            ccw(0x03, 0, 0, 1),
+        ];
+        let marks = marks(9, &again);
+        assert!(marks.contains(&ReadingMark::DemandThree(HowMany::To9)));
+        let end = End::Run(run::End::Chain);
+        assert!(marks.contains(&ReadingMark::Ended(end, Behind::MoreRecoveries)));
+        let expected = [
+            ReadingEvent::SameRecord,
+            ReadingEvent::OtherRecord,
+            ReadingEvent::FiveABehindFive,
+            ReadingEvent::MaskSetBetween,
+            ReadingEvent::SameRecordLater,
+        ];
+        assert_eq!(met(&marks), expected);
+    }
+
+    #[test]
+    fn no_mark_twice() {
+        let all = ReadingMark::all();
+        let distinct: BTreeSet<ReadingMark> = all.iter().copied().collect();
+        assert_eq!(all.len(), distinct.len());
+    }
+}

@@ -1,0 +1,159 @@
+//! Small readings of which every one of a kind is tried.
+
+use crate::chains::steps::{every_five, stepped};
+use crate::chains::GeneratedRun;
+use crate::compare::{Comparison, Disagreement};
+use crate::exhaustive::each_byte_at_each_value;
+use crate::lendings::{GeneratedReading, ANSWER, ENTRY};
+use crate::simulator::faults::Fault;
+use crate::simulator::large::track_at;
+use crate::simulator::{encode, sample};
+
+pub fn compare_all(comparison: &mut Comparison) -> Result<(), Disagreement> {
+    each_byte(comparison)?;
+    each_limit(comparison)?;
+    each_length(comparison)?;
+    each_five_steps(comparison)
+}
+
+fn of_run(run: GeneratedRun, extent: &[u8]) -> GeneratedReading {
+    GeneratedReading {
+        chain: run.chain,
+        arguments: run.arguments,
+        storage: run.storage,
+        image: run.image,
+        faults: run.faults,
+        extent: extent.to_vec(),
+        limit: run.limit,
+        program: vec![0x5A; 64],
+        restart_arguments: vec![0x5A; 16],
+        list_length: ENTRY * run.limit,
+        answer_length: ANSWER,
+    }
+}
+
+/// Document 01's sample with a fault in R2 besides, so that both reads are cut.
+fn both_faulted() -> GeneratedReading {
+    let mut faults = sample::FAULTS.to_vec();
+    let second = Fault {
+        track: track_at(1),
+        number: 2,
+        error_displacement: 2,
+        pattern: [0x81, 0x42, 0x24],
+    };
+    encode::put_fault(&mut faults, second);
+    let run = GeneratedRun {
+        chain: sample::CHAIN.to_vec(),
+        arguments: sample::ARGUMENTS.to_vec(),
+        storage: vec![0xEE; 16],
+        image: sample::IMAGE.to_vec(),
+        faults,
+        limit: 64,
+        restart: None,
+    };
+    of_run(run, &sample::EXTENT)
+}
+
+/// Each byte of each area that is only read at each value.
+fn each_byte(comparison: &mut Comparison) -> Result<(), Disagreement> {
+    type Area = fn(&mut GeneratedReading) -> &mut Vec<u8>;
+    let areas: [Area; 5] = [
+        |reading| &mut reading.chain,
+        |reading| &mut reading.arguments,
+        |reading| &mut reading.image,
+        |reading| &mut reading.faults,
+        |reading| &mut reading.extent,
+    ];
+    for area in areas {
+        let mut reading = both_faulted();
+        let bytes = area(&mut reading).clone();
+        for changed in each_byte_at_each_value(&bytes) {
+            *area(&mut reading) = changed;
+            comparison.reading("sample, one byte set", &reading)?;
+        }
+    }
+    Ok(())
+}
+
+/// Each limit up to the end of the faultless run and one more, and those refused.
+fn each_limit(comparison: &mut Comparison) -> Result<(), Disagreement> {
+    for limit in [0, 1, 2, 3, 4, 5, 6, 7, 4_096, 4_097, 1 << 32, usize::MAX] {
+        let mut reading = both_faulted();
+        reading.limit = limit;
+        reading.list_length = ENTRY * limit.min(4_097);
+        comparison.reading("sample, each limit", &reading)?;
+        reading.faults.clear();
+        comparison.reading("sample, each limit", &reading)?;
+    }
+    Ok(())
+}
+
+/// Lists, answer areas, extents, restart areas and storage of each length up to what they must have
+/// and a little more.
+fn each_length(comparison: &mut Comparison) -> Result<(), Disagreement> {
+    type SetLength = fn(&mut GeneratedReading, usize);
+    let lengths: [(&str, SetLength, usize); 6] = [
+        (
+            "list of each length",
+            |reading, length| reading.list_length = length,
+            400,
+        ),
+        (
+            "answer area of each length",
+            |reading, length| reading.answer_length = length,
+            20,
+        ),
+        (
+            "extent of each length",
+            |reading, length| reading.extent.resize(length, 0),
+            20,
+        ),
+        (
+            "restart program of each length",
+            |reading, length| reading.program.resize(length, 0),
+            80,
+        ),
+        (
+            "restart arguments of each length",
+            |reading, length| reading.restart_arguments.resize(length, 0),
+            20,
+        ),
+        (
+            "storage of each length",
+            |reading, length| reading.storage.resize(length, 0),
+            20,
+        ),
+    ];
+    for (kind, set_length, longest) in lengths {
+        for length in 0..=longest {
+            let mut reading = both_faulted();
+            set_length(&mut reading, length);
+            comparison.reading(kind, &reading)?;
+        }
+    }
+    Ok(())
+}
+
+/// Every sequence of five steps over R0 and R1, and over R0, R1 and R2; all but R0 are faulted.
+fn each_five_steps(comparison: &mut Comparison) -> Result<(), Disagreement> {
+    for steps in every_five() {
+        for (kind, records) in [
+            ("each five steps, R0 and R1", 1),
+            ("each five steps, R0, R1 and R2", 2),
+        ] {
+            let mut run = stepped(records, &steps);
+            for number in 1..=records {
+                let fault = Fault {
+                    track: track_at(0),
+                    number,
+                    error_displacement: 2,
+                    pattern: [0x81, 0x42, 0x24],
+                };
+                encode::put_fault(&mut run.faults, fault);
+            }
+            run.limit = 16;
+            comparison.reading(kind, &of_run(run, &[0; 8]))?;
+        }
+    }
+    Ok(())
+}
