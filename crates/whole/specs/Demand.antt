@@ -1,0 +1,56 @@
+-- DEMAND 3 of the code. The contract of `whole::read` equates what a call answers and leaves with `readingCall`; this says that such a call keeps
+-- demand 3 (Rattle.law.specs.Demand), for every reading that document 01 lets begin.
+use Prim.Native.Nat.{ℕ, _*_}
+use mathlib.Core.Path.{_≡_}
+use mathlib.Core.Bool.{true}
+use mathlib.Core.List.{List, map}
+use lib.Dec.{leb}
+use lib.ListN.{length}
+use Rattle.questions.specs.Areas.{restartAreas}
+use Rattle.address.specs.Within.{extentOf}
+use Rattle.drive.specs.Step.{End}
+use Rattle.law.specs.WholeReading.{Entry, Restarted}
+use Rattle.law.specs.Demand.{Lending, Begins, Provided, recovered, faultedAreas, EachInside}
+use Rattle.whole.specs.declared.How.the-variants.{Ended}
+use Rattle.whole.specs.declared.Outcome.{Outcome}
+use Rattle.whole.specs.declared.Outcome.the-variants.{Over}
+use Rattle.whole.specs.Reading.{behind, readingCall, listAfter, programAfter, argumentsAfter}
+
+-- the areas that a call is lent beside those of g: the restart areas, and a list with room for its recoveries
+pub record Beside : Type 0 where
+  pub program : List ℕ
+  pub restarts : List ℕ
+  pub list : List ℕ
+
+-- question 1 of these
+pub record Lends (g : Lending) (b : Beside) : Type 0 where
+  pub areas : restartAreas (length (b .program)) (length (b .restarts)) ≡ true
+  pub room : leb (g .limit * 6) (length (b .list)) ≡ true
+
+-- The call answers r and leaves these areas: the contract of `whole::read`.
+abbrev pub Answers : Lending → Beside → (r : Outcome) → (storage program restarts list : List ℕ) → Type 0
+Answers g b r st p a l =
+    behind r st p a l
+    ≡ readingCall (g .chain) (g .arguments) (g .storage) (g .image) (g .faultList) (g .extent) (g .limit) (b .program) (b .restarts) (b .list)
+
+-- What demand 3 says of it; the faultless run ends with e.
+pub record Keeps (g : Lending) (e : End) (b : Beside) (r : Outcome) (st p a l : List ℕ) : Type 0 where
+  -- it ends, neither as "limit" nor as "stopped", with the faultless run's address, unit and channel status and count left; "the recoveries that
+  -- the reading reports number the faulted data areas that this faultless run reads, one for each time"
+  pub answer : r ≡ Over (record { csw = e .csw; made = length (faultedAreas g); how = Ended })
+  -- storage equals the faultless run's
+  pub storage : st ≡ e .storage
+  -- the list names these recoveries, in order
+  pub made : List Entry
+  pub same-areas : map recovered made ≡ faultedAreas g
+  pub list : l ≡ listAfter made (b .list)
+  -- "no restart's own seek lies outside the extent"; the last restart remains in its areas
+  pub built : List Restarted
+  pub inside : EachInside (extentOf (g .extent)) built
+  pub program : p ≡ programAfter built (b .program)
+  pub restarts : a ≡ argumentsAfter built (b .restarts)
+
+abbrev pub CallKeepsDemandThree : Type 0
+CallKeepsDemandThree =
+    (g : Lending) (e : End) → Begins g → Provided g e → (b : Beside) → Lends g b
+    → (r : Outcome) (st p a l : List ℕ) → Answers g b r st p a l → Keeps g e b r st p a l
