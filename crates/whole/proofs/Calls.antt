@@ -33,10 +33,11 @@ use Rattle.trial.specs.Run.{ranOf, Runs}
 use Rattle.trial.proofs.Calls.{short-chain, kept-out}
 use Rattle.recovery.specs.Table.{rows}
 use Rattle.law.specs.WholeReading.{wholeReading}
+use Rattle.cut.specs.Cut.{Areas, lentAreas, toldOf}
 use Rattle.whole.specs.declared.Over.{Over}
 use Rattle.whole.specs.declared.Outcome.the-variants as Outcome
 use Rattle.whole.specs.Reading.{Conclusion, behind, concluded, readingAreas, readingCall}
-use Rattle.whole.specs.On.{Areas, lentAreas, toldOf, noLog, readOn, ReadsOn}
+use Rattle.whole.specs.On.{noLog, readOn, ReadsOn}
 
 -- ---- question 1
 

@@ -35,7 +35,7 @@ unfolding concluded over final
 call-keeps-demand-three g e begins provided b lends r st p a l answers =
     let like : LikeFaultless g e = demand-three g e begins provided in
     let is =
-        answers ∙ begun g b begins lends ∙ ap (λ (q : Whole). concluded q (b .program) (b .restarts) (b .list)) (like .same-end) in
+    answers ∙ begun g b begins lends ∙ ap (λ (q : Whole). concluded q (b .program) (b .restarts) (b .list)) (like .same-end) in
     let many : length (like .made) ≡ length (faultedAreas g) = sym (length-map recovered (like .made)) ∙ ap length (like .same-areas) in
     record {
       answer = ap (λ (c : Conclusion). c .answer) is ∙ ap (λ (n : ℕ). Over (record { csw = e .csw; made = n; how = Ended })) many;

@@ -1,25 +1,18 @@
 -- The areas behind a reading, from recovery to recovery.
---   written          a place in the list, from the six bytes that the code writes
 --   noted-list       the list with one recovery more
 --   program-last, arguments-last   the restart areas with one restart more
-use Prim.Native.Nat.{ℕ, _+_, _-_, _*_}
+use Prim.Native.Nat.{ℕ, _+_, _*_}
 use native.Mathlib.Omega.{arith}
 use mathlib.Core.Path.{_≡_, refl, ap, ap₂, sym, _∙_}
 use mathlib.Core.List.{List, [], _∷_, _++_, append-assoc, append-nil}
 use lib.ListN.{length, take, drop, length-append}
 use lib.Seq.{take-append-seam, drop-append-add, drop-drop}
-use borrow.Rule.Slice.PartMut.{midOf, putMid}
 use Rattle.base.specs.Bytes.{two}
-use Rattle.copy.proofs.Lists.{put-home}
 use Rattle.drive.specs.Drive.{addressBytes}
 use Rattle.law.specs.WholeReading.{Entry, Restarted}
-use Rattle.whole.specs.Reading.{entryBytes, entriesBytes, listAfter, programAfter, argumentsAfter}
-use Rattle.whole.specs.On.{noteAt}
-
-pub written : (l s : List ℕ) (made : ℕ) (ys : List ℕ) → length s ≡ 6 → ys ≡ s ++ drop 6 (midOf (made * 6) (length l - made * 6) l)
-    → putMid (made * 6) (length l - made * 6) l ys ≡ noteAt made s l
-unfolding noteAt
-written l s made ys e q = put-home l s (made * 6) ys (rw e q) ∙ rw e
+use Rattle.cut.specs.Entry.{entryBytes}
+use Rattle.cut.specs.Cut.{noteAt}
+use Rattle.whole.specs.Reading.{entriesBytes, listAfter, programAfter, argumentsAfter}
 
 entry-length : (t : Entry) → length (entryBytes t) ≡ 6
 unfolding entryBytes addressBytes two

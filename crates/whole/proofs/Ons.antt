@@ -34,9 +34,11 @@ use Rattle.whole.specs.declared.How.{How}
 use Rattle.whole.specs.declared.How.the-variants.{Ended, Limited, Stop}
 use Rattle.whole.specs.declared.Over.{Over}
 use Rattle.whole.specs.declared.Outcome.the-variants as Outcome
-use Rattle.whole.specs.declared.Went.the-variants.{Again, Closed, Halted}
-use Rattle.whole.specs.Reading.{Conclusion, entryBytes, entriesBytes, listAfter, programAfter, argumentsAfter, stoppedNumber, behind, over, concluded}
-use Rattle.whole.specs.On.{Areas, lentAreas, noteAt, toldOf, AfterCut, noLog, readOn, ReadsOn}
+use Rattle.cut.specs.declared.Went.the-variants.{Again, Closed, Halted}
+use Rattle.cut.specs.Entry.{entryBytes, stoppedNumber}
+use Rattle.cut.specs.Cut.{Areas, lentAreas, noteAt, toldOf, AfterCut}
+use Rattle.whole.specs.Reading.{Conclusion, entriesBytes, listAfter, programAfter, argumentsAfter, behind, over, concluded}
+use Rattle.whole.specs.On.{noLog, readOn, ReadsOn}
 use Rattle.whole.proofs.Listed.{noted-list, program-last, arguments-last}
 
 -- from the areas z, the recoveries of a log lead to the areas y

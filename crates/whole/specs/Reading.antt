@@ -9,7 +9,6 @@ use lib.ListN.{length, drop}
 use Rattle.base.specs.Choice.{pick, opt}
 use Rattle.questions.specs.declared.Question.{Question}
 use Rattle.questions.specs.declared.Question.the-variants as Question
-use Rattle.questions.specs.Number.{numberOf}
 use Rattle.questions.specs.Areas.{runAreas, restartAreas}
 use Rattle.address.specs.Order.{lastCylinder}
 use Rattle.address.specs.Within.{extentOf, soundExtent}
@@ -18,15 +17,12 @@ use Rattle.image.specs.Image.{wellFormed}
 use Rattle.faults.specs.Faults.{faultsAt, soundFaults}
 use Rattle.machine.specs.Reading.{Log, ends, limited, exhausted, stops}
 use Rattle.channel.specs.declared.Csw.{Csw}
-use Rattle.drive.specs.Drive.{addressBytes}
 use Rattle.drive.specs.Run.{limitCsw}
 use Rattle.command.specs.Answer.{settingOf}
 use Rattle.execute.specs.Executes.{lentOf}
 use Rattle.recovery.specs.Table.{rows}
-use Rattle.recovery.specs.Recovery as Recovery
-use Rattle.action.specs.Applied.{kindOf}
-use Rattle.reply.specs.Reply.{actionNumber}
-use Rattle.law.specs.WholeReading.{Entry, Restarted, Stopped, byAction, byQuestion, Whole, wholeReading}
+use Rattle.law.specs.WholeReading.{Entry, Restarted, Whole, wholeReading}
+use Rattle.cut.specs.Entry.{entryBytes, stoppedNumber}
 use Rattle.whole.specs.declared.How.{How}
 use Rattle.whole.specs.declared.How.the-variants.{Ended, Limited, Stop}
 use Rattle.whole.specs.declared.Outcome.{Outcome}
@@ -34,15 +30,12 @@ use Rattle.whole.specs.declared.Outcome.the-variants.{Refused, Over}
 
 -- ---- the areas behind a reading
 
--- A recovery in the list: its action (05, or 15 for 5A), cylinder 2, head 2, record 1.
-unfoldable pub entryBytes : Entry → List ℕ
-entryBytes t = actionNumber (kindOf (t .kind)) ∷ addressBytes (t .at) ++ t .r ∷ []
-
+-- the recoveries in the list, in order
 unfoldable pub entriesBytes : List Entry → List ℕ
 entriesBytes [] = []
 entriesBytes (t ∷ ts) = entryBytes t ++ entriesBytes ts
 
--- The list: the recoveries in order, and behind them the bytes that it had.
+-- The list: behind the recoveries stand the bytes that it had.
 unfoldable pub listAfter : List Entry → List ℕ → List ℕ
 listAfter made l = entriesBytes made ++ drop (length made * 6) l
 
@@ -56,11 +49,6 @@ argumentsAfter [] a = a
 argumentsAfter (r ∷ rs) a = argumentsAfter rs (r .arguments)
 
 -- ---- what it answers
-
--- "An action 2 or a number 9 met at a cut ends it as stopped, with that number"
-unfoldable pub stoppedNumber : Stopped → ℕ
-stoppedNumber (byAction n) = n
-stoppedNumber (byQuestion q) = numberOf q
 
 -- An answer, and the areas behind it.
 pub record Conclusion : Type 0 where

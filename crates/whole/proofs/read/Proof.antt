@@ -4,7 +4,7 @@ use mathlib.Core.Path.{_≡_, refl, sym, _∙_}
 use borrow.Author.Tests.{not-true, not-false}
 use Rattle.faults.proofs.Sound.{sound-is}
 use Rattle.trial.proofs.Calls.{listed, low-chain}
-use Rattle.whole.specs.On.{lentAreas}
+use Rattle.cut.specs.Cut.{lentAreas}
 use Rattle.whole.proofs.Calls.{areas-say, wrong-areas, ill-image, ill-faults, off-pack, read-so}
 use borrow.Author.Needs.{needs}
 use Rattle.whole.proofs.read.Statement.{statement}

@@ -4,7 +4,7 @@ use mathlib.Core.Path.{_≡_, refl, sym, _∙_}
 use Prim.Native.Nat.{_-_, _≤_}
 use lib.ListN.{length}
 use Rattle.trial.specs.Run.{RanLow}
-use Rattle.whole.specs.On.{lentAreas}
+use Rattle.cut.specs.Cut.{lentAreas}
 use Rattle.whole.proofs.Ons.{Onward, at-first, on-ended, on-limited, on-exhausted, on-closed, on-halted, on-again}
 use borrow.Author.Needs.{needs}
 use native.Mathlib.Omega.{arith}

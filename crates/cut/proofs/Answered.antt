@@ -1,15 +1,19 @@
 -- What the definitions make of a cut, from what the code's recovery answered.
+--   written                          six bytes in the list, from those that the code writes
 --   reported                         the report that the code tells is that of the cut
 --   again                            a restart
 --   closed, corrected                an end: finished, and corrected only
 --   refused, one, two, repeated      a stop, with all areas as they were
-use Prim.Native.Nat.{ℕ}
+use Prim.Native.Nat.{ℕ, _-_, _*_}
 use mathlib.Core.Path.{_≡_, refl, ap, ap₂, sym, _∙_}
 use mathlib.Core.Option.{none}
 use mathlib.Core.List.{List, [], _∷_, _++_}
+use lib.ListN.{length, drop}
+use borrow.Rule.Slice.PartMut.{midOf, putMid}
 use Rattle.questions.specs.declared.Question.{Question}
 use Rattle.questions.specs.Number.{numberOf}
 use Rattle.base.specs.Choice.{opt}
+use Rattle.copy.proofs.Lists.{put-home}
 use Rattle.address.specs.declared.Extent.{Extent}
 use Rattle.machine.specs.Reading.{stop}
 use Rattle.channel.specs.declared.Csw.{Csw}
@@ -33,10 +37,15 @@ use Rattle.home.specs.User.{userIn}
 use Rattle.recover.specs.Recover.{Recovers}
 use Rattle.reply.specs.Reply.{actionNumber}
 use Rattle.law.specs.WholeReading.{Stopped, byAction, byQuestion, reportOf, entryOf, answered, recoverCut, restartedIn, restartedRun}
-use Rattle.whole.specs.declared.Went.{Went}
-use Rattle.whole.specs.declared.Went.the-variants.{Again, Closed, Halted}
-use Rattle.whole.specs.Reading.{entryBytes, stoppedNumber}
-use Rattle.whole.specs.On.{RecoversCut, noteAt, AfterCut, lentAreas}
+use Rattle.cut.specs.declared.Went.{Went}
+use Rattle.cut.specs.declared.Went.the-variants.{Again, Closed, Halted}
+use Rattle.cut.specs.Entry.{entryBytes, stoppedNumber}
+use Rattle.cut.specs.Cut.{RecoversCut, noteAt, AfterCut, lentAreas}
+
+pub written : (l s : List ℕ) (made : ℕ) (ys : List ℕ) → length s ≡ 6 → ys ≡ s ++ drop 6 (midOf (made * 6) (length l - made * 6) l)
+    → putMid (made * 6) (length l - made * 6) l ys ≡ noteAt made s l
+unfolding noteAt
+written l s made ys e q = put-home l s (made * 6) ys (rw e q) ∙ rw e
 
 -- ---- the answer of the definitions, read off the code's
 

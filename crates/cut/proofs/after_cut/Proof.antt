@@ -1,12 +1,12 @@
--- `whole::after_cut` meets its contract: by what recovery answers. Assumes nothing.
+-- `cut::after_cut` meets its contract: by what recovery answers. Assumes nothing.
 use native.Mathlib.Omega.{arith}
 use mathlib.Core.Path.{_≡_, refl}
 use lib.ListN.{length}
 use Rattle.channel.specs.Ccw.{addressOf}
-use Rattle.whole.proofs.Answered.{again, closed, corrected, refused, one, two, repeated}
+use Rattle.cut.proofs.Answered.{again, closed, corrected, refused, one, two, repeated}
 use borrow.Author.Needs.{needs}
-use Rattle.whole.proofs.after_cut.Statement.{statement}
-use Rattle.whole.proofs.after_cut.Tie as tie
+use Rattle.cut.proofs.after_cut.Statement.{statement}
+use Rattle.cut.proofs.after_cut.Tie as tie
 
 recover-cut-requires : tie.Need-recover-cut-requires
 recover-cut-requires c κs = search needs

@@ -1,11 +1,11 @@
--- `whole::note` meets its contract: six bytes at their place. Assumes nothing.
+-- `cut::note` meets its contract: six bytes at their place. Assumes nothing.
 use mathlib.Core.Path.{refl}
 use Rattle.base.specs.Bytes.{two}
 use Rattle.drive.specs.Drive.{addressBytes}
-use Rattle.whole.proofs.Listed.{written}
+use Rattle.cut.proofs.Answered.{written}
 use borrow.Author.Needs.{needs}
-use Rattle.whole.proofs.note.Statement.{statement}
-use Rattle.whole.proofs.note.Tie as tie
+use Rattle.cut.proofs.note.Statement.{statement}
+use Rattle.cut.proofs.note.Tie as tie
 
 mul-put : tie.Need-mul-put
 mul-put c = search needs

@@ -1,12 +1,12 @@
--- `whole::recover_cut` meets its contract: the sense bytes and the rest of the report are those of the cut. Assumes nothing.
+-- `cut::recover_cut` meets its contract: the sense bytes and the rest of the report are those of the cut. Assumes nothing.
 use mathlib.Core.Path.{_≡_, refl, _∙_}
 use mathlib.Core.List.{append-nil}
 use Rattle.drive.specs.Step as Step
 use Rattle.command.specs.Answer.{cutOf}
-use Rattle.whole.proofs.Answered.{reported}
+use Rattle.cut.proofs.Answered.{reported}
 use borrow.Author.Needs.{needs}
-use Rattle.whole.proofs.recover_cut.Statement.{statement}
-use Rattle.whole.proofs.recover_cut.Tie as tie
+use Rattle.cut.proofs.recover_cut.Statement.{statement}
+use Rattle.cut.proofs.recover_cut.Tie as tie
 
 slice-aggregate-put-cut-sense : tie.Need-slice-aggregate-put-cut-sense
 slice-aggregate-put-cut-sense c = search needs
