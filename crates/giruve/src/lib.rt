@@ -13,6 +13,7 @@ ghost use Rattle.giruve.specs.Areas.{runAnswer, restartAnswer};
 ghost use Rattle.recover.specs.Recover.{recoverCall};
 ghost use Rattle.giruve.specs.Run.{HandsOut, handed};
 ghost use Rattle.giruve.specs.Recover.{mended};
+ghost use Rattle.giruve.specs.Reading.{readOut, readingHanded};
 
 // Questions 1 and 2: 0, 1 or 2.
 #[no_mangle]
@@ -157,4 +158,39 @@ pub extern "C" fn giruve_recover(
     }
     let r = recover::recover(chain, report, extent, storage, program, arguments);
     reply::put(answer, r)
+}
+
+// The whole reading. An answer area is one of 11 bytes; returned is 0 ended, 10 "limit", 11 "stopped", or the refusing question's number.
+#[no_mangle]
+pub extern "C" fn giruve_reading(
+    chain: &[u8],
+    arguments: &[u8],
+    storage: &mut [u8],
+    image: &[u8],
+    faults: &[u8],
+    extent: &[u8],
+    limit: usize,
+    program: &mut [u8],
+    restarts: &mut [u8],
+    list: &mut [u8],
+    answer: &mut [u8],
+) -> u8
+    ensures { λ r. ⌜ readOut r (now (answer .exit)) (now (storage .exit)) (now (program .exit)) (now (restarts .exit)) (now (list .exit)) ≡ readingHanded (now (chain .entry)) (now (arguments .entry)) (now (storage .entry)) (now (image .entry)) (now (faults .entry)) (now (extent .entry)) limit (now (program .entry)) (now (restarts .entry)) (now (list .entry)) (now (answer .entry)) ⌝ }
+{
+    if answer.len() != 11 {
+        return questions::number(Question::Areas);
+    }
+    let o = whole::read(
+        chain,
+        arguments,
+        storage,
+        image,
+        faults,
+        extent,
+        limit,
+        program,
+        restarts,
+        list,
+    );
+    outcome::put(answer, o)
 }

@@ -1,0 +1,45 @@
+-- `outcome::put` meets its contract: by the answer. Assumes nothing.
+use mathlib.Core.Path.{_≡_, refl}
+use Rattle.outcome.specs.Outcome.{outcomeAfter}
+use borrow.Author.Needs.{needs}
+use Rattle.outcome.proofs.put.Statement.{statement}
+use Rattle.outcome.proofs.put.Tie as tie
+
+enum-known-o : tie.Need-enum-known-o
+enum-known-o c = search needs
+
+number-requires : tie.Need-number-requires
+number-requires c κs = search needs
+
+returns : tie.Need-returns
+unfolding outcomeAfter
+returns c = rw (c .before .before .o .given .1) (c .number .ensures, refl)
+
+enum-known-o-2 : tie.Need-enum-known-o-2
+enum-known-o-2 c = search needs
+
+put-over-requires : tie.Need-put-over-requires
+put-over-requires c κs = search needs
+
+how-number-requires : tie.Need-how-number-requires
+how-number-requires c κs = search needs
+
+same-length : tie.Need-same-length
+same-length c = search needs
+
+returns-2 : tie.Need-returns-2
+unfolding outcomeAfter
+returns-2 c = rw (c .before .before .before .before .before .before .o2 .given .1) (c .how-number .ensures, c .before .before .before .put-over .ensures)
+
+pub put-spec : {M : Type 1} → statement M
+put-spec =
+    tie.close
+    (tie.spec
+    enum-known-o
+    number-requires
+    returns
+    enum-known-o-2
+    put-over-requires
+    how-number-requires
+    same-length
+    returns-2)

@@ -1,0 +1,59 @@
+// A reading's answer as a number and bytes.
+use whole::How;
+use whole::Outcome;
+use whole::Over;
+ghost use mathlib.Core.Path.{_≡_};
+ghost use lib.ListN.{length};
+ghost use Rattle.outcome.specs.Outcome.{howNumber, stopNumber, overBytes, outcomeNumber, outcomeAfter};
+
+// 0 ended, 10 "limit", 11 "stopped".
+fn how_number(h: How) -> u8
+    ensures { λ r. ⌜ r ≡ howNumber h ⌝ }
+{
+    match h {
+        How::Ended => 0,
+        How::Limited => 10,
+        How::Stop(_) => 11,
+    }
+}
+
+// The number that stopped a reading, or 0.
+fn stop_number(h: How) -> u8
+    ensures { λ r. ⌜ r ≡ stopNumber h ⌝ }
+{
+    match h {
+        How::Ended => 0,
+        How::Limited => 0,
+        How::Stop(n) => n,
+    }
+}
+
+// An answer that is no refusal.
+fn put_over(answer: &mut [u8], o: Over)
+    requires { ⌜ length (now answer) ≡ 11 ⌝ }
+    ensures { λ _. ⌜ now (answer .exit) ≡ overBytes o ⌝ }
+{
+    answer::put_csw(answer, o.csw);
+    answer[8] = (o.made / 256 % 256) as u8;
+    answer[9] = (o.made % 256) as u8;
+    let how = o.how;
+    answer[10] = stop_number(how);
+}
+
+// An answer of a reading, into an area of 11 bytes; its number.
+pub fn put(answer: &mut [u8], o: Outcome) -> u8
+    requires { ⌜ length (now answer) ≡ 11 ⌝ }
+    ensures { λ n. ⌜ n ≡ outcomeNumber o ⌝ }
+    ensures { λ _. ⌜ now (answer .exit) ≡ outcomeAfter (now (answer .entry)) o ⌝ }
+{
+    match o {
+        Outcome::Refused(q) => {
+            return questions::number(q);
+        }
+        Outcome::Over(e) => {
+            put_over(answer, e);
+            let how = e.how;
+            return how_number(how);
+        }
+    }
+}
