@@ -1,0 +1,30 @@
+-- The lines that the list's bytes give are those of the recoveries of the log.
+--   lines-of-log   for the list behind a reading
+use Prim.Native.Nat.{ℕ, _+_, _*_, _/_, _%_}
+use native.Mathlib.Omega.{arith}
+use mathlib.Core.Path.{_≡_, refl, ap₂, _∙_}
+use mathlib.Core.List.{List, [], _∷_, _++_}
+use lib.ListN.{length, drop}
+use Rattle.base.specs.Bytes.{two}
+use Rattle.drive.specs.Drive.{addressBytes}
+use Rattle.law.specs.WholeReading.{Entry}
+use Rattle.cut.specs.Entry.{entryBytes}
+use Rattle.whole.specs.Reading.{entriesBytes, listAfter}
+use Rattle.lines.specs.Lines.{recoveryLine, recoveryLines}
+use Rattle.lines.specs.Entries.{entryLine, entryLines}
+
+back : (n : ℕ) → n / 256 * 256 + n % 256 ≡ n
+back n = omega arith
+
+line-of-entry : (t : Entry) (l : List ℕ) → recoveryLine (entryBytes t ++ l) ≡ entryLine t
+unfolding recoveryLine entryLine entryBytes addressBytes two
+line-of-entry t l = rw (back (t .at .cylinder), back (t .at .head))
+
+lines-of : (ts : List Entry) (l : List ℕ) → recoveryLines (length ts) (entriesBytes ts ++ l) ≡ entryLines ts
+unfolding recoveryLines entriesBytes entryLines entryBytes addressBytes two
+lines-of [] l = refl
+lines-of (t ∷ ts) l = ap₂ (λ (x y : List ℕ). x ++ y) (line-of-entry t (entriesBytes ts ++ l)) (lines-of ts l)
+
+pub lines-of-log : (made : List Entry) (l : List ℕ) → recoveryLines (length made) (listAfter made l) ≡ entryLines made
+unfolding listAfter
+lines-of-log made l = lines-of made (drop (length made * 6) l)

@@ -1,0 +1,69 @@
+-- `lines::put_bytes` meets its contract. Invariant: the digits that are left, put where the loop stands, make the whole. Measure: the bytes
+-- left. Assumes nothing.
+use Prim.Native.Nat.{ℕ, _+_, _-_, _*_, _≤_}
+use mathlib.Core.Path.{_≡_}
+use mathlib.Core.List.{List}
+use lib.ListN.{length, drop}
+use Rattle.text.specs.Text.{Puts}
+use Rattle.lines.specs.Lines.{bytesText}
+use Rattle.lines.proofs.Texts.{bytes-turn, bytes-none}
+use borrow.Author.Needs.{needs}
+use native.Mathlib.Omega.{arith}
+use Rattle.lines.proofs.put_bytes.Statement.{statement}
+use Rattle.lines.proofs.put_bytes.Tie as tie
+
+abbrev Inv-loop : tie.InvT-loop
+Inv-loop out₀ at s next₀ i₀ out next i =
+    (length out ≡ length out₀)
+    × (i ≤ length s)
+    × (next ≡ at + i * 2)
+    × ((z : List ℕ) (q : ℕ) → Puts out next (bytesText (drop i s)) z q → Puts out₀ at (bytesText s) z q)
+
+abbrev μ-loop : tie.MeasureT-loop
+μ-loop out₀ at s next₀ i₀ out next i = length s - i
+
+loop-holds : tie.Need-loop-holds Inv-loop μ-loop
+loop-holds c = (search needs, search needs, search needs, λ z q p. p)
+
+byte-requires : tie.Need-byte-requires Inv-loop μ-loop
+byte-requires c κs = search needs
+
+put-digits-requires : tie.Need-put-digits-requires Inv-loop μ-loop
+put-digits-requires c κs = search needs
+
+add-i : tie.Need-add-i Inv-loop μ-loop
+add-i c = search needs
+
+loop-less : tie.Need-loop-less Inv-loop μ-loop
+loop-less c = search needs
+
+loop-again : tie.Need-loop-again Inv-loop μ-loop
+loop-again c =
+    let at-loop = c .before .before .before .before .before .before in
+    let call = c .before .before .put-digits in (
+      search needs,
+      search needs,
+      search needs,
+      λ z q p. at-loop .loop .inv .3 z q (bytes-turn _ _ (c .before .before .before .before .before .loop-test .taken) (c .before .before .before .byte .ensures .0) (call .ensures .0) z q p),
+    )
+
+same-length : tie.Need-same-length Inv-loop μ-loop
+same-length c = search needs
+
+returns : tie.Need-returns Inv-loop μ-loop
+returns c = (c .before .loop .inv .3 _ _ (bytes-none _ _ (c .loop-test .left)), search needs)
+
+pub put-bytes-spec : {M : Type 1} → statement M
+put-bytes-spec =
+    tie.close
+    (tie.spec
+    Inv-loop
+    μ-loop
+    loop-holds
+    byte-requires
+    put-digits-requires
+    add-i
+    loop-less
+    loop-again
+    same-length
+    returns)

@@ -1,0 +1,81 @@
+-- What is printed, from what the code does.
+--   parts-shown, parts-stored      the reading of the parts: its lines, and storage behind it
+--   bad-shown, bad-stored          an input whose parts are not there
+--   whole-shown, whole-stored      an input whose parts are
+--   ordered, within                the parts lie in the input, the text in its area
+use Prim.Native.Nat.{ℕ, _+_, _-_, _≤_}
+use native.Mathlib.Omega.{arith}
+use mathlib.Core.Path.{_≡_, refl, ap, sym, _∙_}
+use mathlib.Core.Option.{Option, none, some}
+use mathlib.Core.List.{List}
+use lib.ListN.{length, take, drop, replicate, length-drop}
+use lib.Seq.{take-all}
+use Rattle.base.specs.Choice.{opt}
+use Rattle.base.specs.Bytes.{part}
+use Rattle.text.specs.Text.{Puts}
+use Rattle.text.proofs.Written.{same-length-of-puts}
+use Rattle.questions.specs.declared.Question.the-variants as Question
+use Rattle.whole.specs.declared.Outcome.{Outcome}
+use Rattle.whole.specs.declared.Outcome.the-variants.{Refused}
+use Rattle.whole.specs.Reading.{Conclusion, behind, readingCall}
+use Rattle.input.specs.declared.Places.{Places}
+use Rattle.input.specs.declared.Found as Code
+use Rattle.input.specs.declared.Found.the-variants.{At, Bad}
+use Rattle.input.specs.Input.{Parts, partsOf}
+use Rattle.input.specs.Found.{partsIn, foundIn, Ordered, Inside}
+use Rattle.lines.specs.Lines.{answerText, refusalLine}
+use Rattle.session.specs.Session.{readingOf, shown, answered, textOf}
+
+-- ---- the parts
+
+tail : (s : List ℕ) (a : ℕ) → take (length s - a) (drop a s) ≡ drop a s
+tail s a = take-all (length s - a) (drop a s) (rw length-drop (omega arith))
+
+module _ (s st st′ p′ a′ l′ : List ℕ) (p : Places) (r : Outcome)
+    (e : behind r st′ p′ a′ l′
+    ≡ readingCall (take (p .second - p .chain) (drop (p .chain) s)) (take (p .third - p .arguments) (drop (p .arguments) s)) st
+    (take (length s - p .image) (drop (p .image) s)) (take (p .image - p .faults) (drop (p .faults) s))
+    (take (p .faults - p .extent) (drop (p .extent) s)) 4096 (replicate 64 0) (replicate 16 0) (replicate 24576 0)) where
+  read-is : behind r st′ p′ a′ l′ ≡ readingOf (partsIn s p) st
+  unfolding readingOf part
+  read-is = e ∙ rw (tail s (p .image))
+
+  pub parts-shown : {x y : List ℕ} {n : ℕ} → Puts x 0 (answerText r st′ l′) y n → Puts x 0 (shown (readingOf (partsIn s p) st)) y n
+  unfolding shown
+  parts-shown q = rw (← read-is) q
+
+  pub parts-stored : st′ ≡ readingOf (partsIn s p) st .storage
+  parts-stored = ap (λ (k : Conclusion). k .storage) read-is
+
+-- ---- the input
+
+module _ (s st : List ℕ) {f : Code.Found} (e : foundIn s f ≡ partsOf s) where
+  module _ (h : f ≡ Bad) where
+    bad-is : answered s st ≡ behind (Refused Question.Areas) st (replicate 64 0) (replicate 16 0) (replicate 24576 0)
+    unfolding answered opt
+    bad-is = rw (← e, h)
+
+    pub bad-shown : {x y : List ℕ} {n : ℕ} → Puts x 0 (refusalLine Question.Areas) y n → Puts x 0 (textOf s st) y n
+    unfolding textOf shown answerText
+    bad-shown q = rw bad-is q
+
+    pub bad-stored : st ≡ answered s st .storage
+    bad-stored = ap (λ (k : Conclusion). k .storage) (sym bad-is)
+
+  module _ {p : Places} (h : f ≡ At p) where
+    whole-is : answered s st ≡ readingOf (partsIn s p) st
+    unfolding answered opt
+    whole-is = rw (← e, h)
+
+    pub whole-shown : {x y : List ℕ} {n : ℕ} → Puts x 0 (shown (readingOf (partsIn s p) st)) y n → Puts x 0 (textOf s st) y n
+    unfolding textOf
+    whole-shown q = rw whole-is q
+
+    pub whole-stored : {st′ : List ℕ} → st′ ≡ readingOf (partsIn s p) st .storage → st′ ≡ answered s st .storage
+    whole-stored q = rw whole-is q
+
+pub ordered : {f : Code.Found} {p : Places} {n : ℕ} → f ≡ At p → Inside f n → Ordered p n
+ordered e h = rw e at h
+
+pub within : {x y t : List ℕ} {at n : ℕ} → Puts x at t y n → n ≤ length x → n ≤ length y
+within p h = rw (same-length-of-puts p) h

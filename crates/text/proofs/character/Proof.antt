@@ -1,0 +1,31 @@
+-- `text::character` meets its contract. Assumes nothing.
+use borrow.Author.Tests.{lt-ltb, le-ltb}
+use Rattle.base.specs.Choice.{pick}
+use Rattle.text.specs.Text as Text
+use borrow.Author.Needs.{needs}
+use Rattle.text.proofs.character.Statement.{statement}
+use Rattle.text.proofs.character.Tie as tie
+
+add-result : tie.Need-add-result
+add-result c = search needs
+
+cast-result : tie.Need-cast-result
+cast-result c = search needs
+
+returns : tie.Need-returns
+unfolding Text.character pick
+returns c = rw (lt-ltb _ _ (c .if1 .taken))
+
+add-result-2 : tie.Need-add-result-2
+add-result-2 c = search needs
+
+cast-result-2 : tie.Need-cast-result-2
+cast-result-2 c = search needs
+
+returns-2 : tie.Need-returns-2
+unfolding Text.character pick
+returns-2 c = rw (le-ltb _ _ (c .if1 .left))
+
+pub character-spec : {M : Type 1} → statement M
+character-spec =
+    tie.close (tie.spec add-result cast-result returns add-result-2 cast-result-2 returns-2)
