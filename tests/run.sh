@@ -1,7 +1,7 @@
 #!/usr/bin/env bash
-# Builds the proved library and program and runs every test but the proofs: the simulator's own tests, the hand-written cases of runs,
-# of recoveries and of whole readings on simulator and library, library against simulator, the program on its samples, and the edits of
-# the definitions that demand 3 must not survive.
+# Builds the proved library and program and runs every test but the proofs: the simulator's own tests; the hand-written cases of runs,
+# of recoveries and of whole readings on simulator and library; library against simulator; the C example; the program on its samples;
+# the edits of the definitions that demand 3 must not survive.
 set -euo pipefail
 cd "$(dirname "${BASH_SOURCE[0]}")/.."
 
@@ -17,6 +17,8 @@ rustc --edition 2021 tests/reading_cases.rs "${library[@]}" -o target/reading_ca
 target/reading_cases tests/cases/reading
 rustc -O --edition 2021 tests/differential/main.rs "${library[@]}" -o target/differential
 target/differential
+cc -std=c99 -Wall -Wextra -Werror -Iinclude examples/worked.c target/staticlib/libgiruve.a -o target/worked
+cmp <(target/worked) samples/worked.out
 rt check reading
 bash tests/program_cases.sh
 bash tests/theorem.sh
