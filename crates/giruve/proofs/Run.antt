@@ -13,7 +13,7 @@ use Rattle.questions.specs.Number.{numberOf}
 use Rattle.trial.specs.declared.Ran.{Ran}
 use Rattle.trial.specs.declared.Trial.{Trial}
 use Rattle.trial.specs.declared.Trial.the-variants as Trial
-use Rattle.trial.specs.Trial.{Conclusion, calledOf}
+use Rattle.trial.specs.Trial.{Conclusion, conclusionOf}
 use Rattle.answer.specs.Answer.{Writes, Numbers}
 use Rattle.giruve.specs.Run.{callNumber, answerAfter, handing, handed, HandsOut}
 
@@ -30,7 +30,6 @@ module _ (a st : List ℕ) (k : Conclusion) where
   unfolding handed pick
   unfit h n e = rw (ne-eqb _ _ h, e)
 
-  pub fits : length a ≡ 36 → (t : Trial) (after : List ℕ) → calledOf t after ≡ k .answer → after ≡ k .storage → (n : ℕ) (b : List ℕ) → HandsOut a t n b
-      → handing n b after ≡ handed a st k
+  pub fits : length a ≡ 36 → (t : Trial) (after : List ℕ) → conclusionOf t after ≡ k → (n : ℕ) (b : List ℕ) → HandsOut a t n b → handing n b after ≡ handed a st k
   unfolding handed pick
-  fits h t after e f n b out = rw (eq-eqb _ _ h, ← e, ← f, out after .0, out after .1)
+  fits h t after e n b out = rw (eq-eqb _ _ h, ← e, out after .0, out after .1)

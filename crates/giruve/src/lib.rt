@@ -11,8 +11,8 @@ ghost use Rattle.faults.specs.Faults.{faultsAnswer};
 ghost use Rattle.trial.specs.Trial.{runCall, restartCall, TrialLow};
 ghost use Rattle.giruve.specs.Areas.{runAnswer, restartAnswer};
 ghost use Rattle.recover.specs.Recover.{recoverCall};
-ghost use Rattle.giruve.specs.Run.{HandsOut, handed};
-ghost use Rattle.giruve.specs.Recover.{mended};
+ghost use Rattle.giruve.specs.Run.{HandsOut, handing, handed};
+ghost use Rattle.giruve.specs.Recover.{mending, mended};
 ghost use Rattle.giruve.specs.Reading.{readOut, readingHanded};
 
 // Questions 1 and 2: 0, 1 or 2.
@@ -102,9 +102,7 @@ pub extern "C" fn giruve_run(
     limit: usize,
     answer: &mut [u8],
 ) -> u8
-    ensures number { λ r. ⌜ r ≡ (handed (now (answer .entry)) (now (storage .entry)) (runCall (now (chain .entry)) (now (arguments .entry)) (now (storage .entry)) (now (image .entry)) (now (faults .entry)) limit)) .number ⌝ }
-    ensures answer { λ _. ⌜ now (answer .exit) ≡ (handed (now (answer .entry)) (now (storage .entry)) (runCall (now (chain .entry)) (now (arguments .entry)) (now (storage .entry)) (now (image .entry)) (now (faults .entry)) limit)) .answer ⌝ }
-    ensures storage { λ _. ⌜ now (storage .exit) ≡ (handed (now (answer .entry)) (now (storage .entry)) (runCall (now (chain .entry)) (now (arguments .entry)) (now (storage .entry)) (now (image .entry)) (now (faults .entry)) limit)) .storage ⌝ }
+    ensures { λ r. ⌜ handing r (now (answer .exit)) (now (storage .exit)) ≡ handed (now (answer .entry)) (now (storage .entry)) (runCall (now (chain .entry)) (now (arguments .entry)) (now (storage .entry)) (now (image .entry)) (now (faults .entry)) limit) ⌝ }
 {
     if answer.len() != ANSWER_LENGTH {
         return questions::number(Question::Areas);
@@ -125,9 +123,7 @@ pub extern "C" fn giruve_run_restart(
     faults: &[u8],
     answer: &mut [u8],
 ) -> u8
-    ensures number { λ r. ⌜ r ≡ (handed (now (answer .entry)) (now (storage .entry)) (restartCall (now (chain .entry)) (now (arguments .entry)) (now (program .entry)) (now (restarts .entry)) (now (storage .entry)) (now (image .entry)) (now (faults .entry)))) .number ⌝ }
-    ensures answer { λ _. ⌜ now (answer .exit) ≡ (handed (now (answer .entry)) (now (storage .entry)) (restartCall (now (chain .entry)) (now (arguments .entry)) (now (program .entry)) (now (restarts .entry)) (now (storage .entry)) (now (image .entry)) (now (faults .entry)))) .answer ⌝ }
-    ensures storage { λ _. ⌜ now (storage .exit) ≡ (handed (now (answer .entry)) (now (storage .entry)) (restartCall (now (chain .entry)) (now (arguments .entry)) (now (program .entry)) (now (restarts .entry)) (now (storage .entry)) (now (image .entry)) (now (faults .entry)))) .storage ⌝ }
+    ensures { λ r. ⌜ handing r (now (answer .exit)) (now (storage .exit)) ≡ handed (now (answer .entry)) (now (storage .entry)) (restartCall (now (chain .entry)) (now (arguments .entry)) (now (program .entry)) (now (restarts .entry)) (now (storage .entry)) (now (image .entry)) (now (faults .entry))) ⌝ }
 {
     if answer.len() != ANSWER_LENGTH {
         return questions::number(Question::Areas);
@@ -147,11 +143,7 @@ pub extern "C" fn giruve_recover(
     arguments: &mut [u8],
     answer: &mut [u8],
 ) -> u8
-    ensures number { λ r. ⌜ r ≡ (mended (now (answer .entry)) (now (storage .entry)) (now (program .entry)) (now (arguments .entry)) (recoverCall (now (chain .entry)) (now (report .entry)) (now (extent .entry)) (now (storage .entry)) (now (program .entry)) (now (arguments .entry)))) .number ⌝ }
-    ensures answer { λ _. ⌜ now (answer .exit) ≡ (mended (now (answer .entry)) (now (storage .entry)) (now (program .entry)) (now (arguments .entry)) (recoverCall (now (chain .entry)) (now (report .entry)) (now (extent .entry)) (now (storage .entry)) (now (program .entry)) (now (arguments .entry)))) .answer ⌝ }
-    ensures storage { λ _. ⌜ now (storage .exit) ≡ (mended (now (answer .entry)) (now (storage .entry)) (now (program .entry)) (now (arguments .entry)) (recoverCall (now (chain .entry)) (now (report .entry)) (now (extent .entry)) (now (storage .entry)) (now (program .entry)) (now (arguments .entry)))) .storage ⌝ }
-    ensures program { λ _. ⌜ now (program .exit) ≡ (mended (now (answer .entry)) (now (storage .entry)) (now (program .entry)) (now (arguments .entry)) (recoverCall (now (chain .entry)) (now (report .entry)) (now (extent .entry)) (now (storage .entry)) (now (program .entry)) (now (arguments .entry)))) .program ⌝ }
-    ensures arguments { λ _. ⌜ now (arguments .exit) ≡ (mended (now (answer .entry)) (now (storage .entry)) (now (program .entry)) (now (arguments .entry)) (recoverCall (now (chain .entry)) (now (report .entry)) (now (extent .entry)) (now (storage .entry)) (now (program .entry)) (now (arguments .entry)))) .arguments ⌝ }
+    ensures { λ r. ⌜ mending r (now (answer .exit)) (now (storage .exit)) (now (program .exit)) (now (arguments .exit)) ≡ mended (now (answer .entry)) (now (storage .entry)) (now (program .entry)) (now (arguments .entry)) (recoverCall (now (chain .entry)) (now (report .entry)) (now (extent .entry)) (now (storage .entry)) (now (program .entry)) (now (arguments .entry))) ⌝ }
 {
     if answer.len() != 10 {
         return questions::number(Question::Areas);

@@ -17,7 +17,7 @@ ghost use Rattle.position.specs.Standing.{Standing};
 ghost use Rattle.command.specs.Answer.{Low};
 ghost use Rattle.execute.specs.Executes.{lentOf, Begun};
 ghost use Rattle.trial.specs.Run.{TicsFirst, RunsOn, Runs, RanLow};
-ghost use Rattle.trial.specs.Trial.{runCall, restartCall, calledOf, conclusionOf, TrialLow};
+ghost use Rattle.trial.specs.Trial.{runCall, restartCall, conclusionOf, TrialLow};
 
 // What a run comes to: an end, a cut by a faulted data area, or "limit" with the state behind its last command.
 pub enum Ran {
@@ -180,9 +180,8 @@ pub fn run(
     faults: &[u8],
     limit: usize,
 ) -> Trial
-    ensures answer { λ r. ⌜ calledOf r (now (storage .exit)) ≡ (runCall (now (chain .entry)) (now (arguments .entry)) (now (storage .entry)) (now (image .entry)) (now (faults .entry)) limit) .answer ⌝ }
-    ensures storage { λ _. ⌜ now (storage .exit) ≡ (runCall (now (chain .entry)) (now (arguments .entry)) (now (storage .entry)) (now (image .entry)) (now (faults .entry)) limit) .storage ⌝ }
-    ensures low { λ r. ⌜ TrialLow r ⌝ }
+    ensures { λ r. ⌜ conclusionOf r (now (storage .exit)) ≡ runCall (now (chain .entry)) (now (arguments .entry)) (now (storage .entry)) (now (image .entry)) (now (faults .entry)) limit ⌝ }
+    ensures { λ r. ⌜ TrialLow r ⌝ }
 {
     if !questions::run_areas(
         chain.len(),
@@ -221,9 +220,8 @@ pub fn run_restart(
     image: &[u8],
     faults: &[u8],
 ) -> Trial
-    ensures answer { λ r. ⌜ calledOf r (now (storage .exit)) ≡ (restartCall (now (chain .entry)) (now (arguments .entry)) (now (program .entry)) (now (restarts .entry)) (now (storage .entry)) (now (image .entry)) (now (faults .entry))) .answer ⌝ }
-    ensures storage { λ _. ⌜ now (storage .exit) ≡ (restartCall (now (chain .entry)) (now (arguments .entry)) (now (program .entry)) (now (restarts .entry)) (now (storage .entry)) (now (image .entry)) (now (faults .entry))) .storage ⌝ }
-    ensures low { λ r. ⌜ TrialLow r ⌝ }
+    ensures { λ r. ⌜ conclusionOf r (now (storage .exit)) ≡ restartCall (now (chain .entry)) (now (arguments .entry)) (now (program .entry)) (now (restarts .entry)) (now (storage .entry)) (now (image .entry)) (now (faults .entry)) ⌝ }
+    ensures { λ r. ⌜ TrialLow r ⌝ }
 {
     if !questions::run_areas(
         chain.len(),

@@ -1,7 +1,5 @@
 -- `giruve::giruve_recover` meets its contract: the answer area's length, and then what `recover::recover` comes to. Assumes nothing.
-use mathlib.Core.Path.{_≡_, ap}
 use Rattle.recover.specs.Recover.{recoverCall}
-use Rattle.giruve.specs.Recover.{Mended}
 use Rattle.giruve.proofs.Recover.{area-unfit, area-fits}
 use borrow.Author.Needs.{needs}
 use Rattle.giruve.proofs.giruve_recover.Statement.{statement}
@@ -14,8 +12,7 @@ returns : tie.Need-returns
 returns c =
     let a = c .before .before .before .before .before .before .before .before .before .args in
     let k = recoverCall (a .chain .now) (a .report .now) (a .extent .now) (a .storage .now) (a .program .now) (a .arguments .now) in
-    let e = area-unfit _ _ _ _ k (c .before .if1 .taken) _ (c .number .ensures) in
-    (ap (λ (k : Mended). k .number) e, (ap (λ (k : Mended). k .answer) e, (ap (λ (k : Mended). k .storage) e, (ap (λ (k : Mended). k .program) e, ap (λ (k : Mended). k .arguments) e))))
+    area-unfit _ _ _ _ k (c .before .if1 .taken) _ (c .number .ensures)
 
 recover-requires : tie.Need-recover-requires
 recover-requires c κs = search needs
@@ -41,8 +38,7 @@ returns-2 c =
     let k = recoverCall (a .chain .now) (a .report .now) (a .extent .now) (a .storage .now) (a .program .now) (a .arguments .now) in
     let r = c .before .before .before .before .before .before .before .before .before .before .recover in
     let put = c .before .before .put in
-    let e = area-fits _ (a .storage .now) (a .program .now) (a .arguments .now) k (c .before .before .before .before .before .before .before .before .before .before .before .before .before .before .if1 .left) (r .result) _ _ _ (r .ensures) _ _ (put .ensures .0) (put .ensures .1) in
-    (ap (λ (k : Mended). k .number) e, (ap (λ (k : Mended). k .answer) e, (ap (λ (k : Mended). k .storage) e, (ap (λ (k : Mended). k .program) e, ap (λ (k : Mended). k .arguments) e))))
+    area-fits _ (a .storage .now) (a .program .now) (a .arguments .now) k (c .before .before .before .before .before .before .before .before .before .before .before .before .before .before .if1 .left) (r .result) _ _ _ (r .ensures) _ _ (put .ensures .0) (put .ensures .1)
 
 pub giruve-recover-spec : {M : Type 1} → statement M
 giruve-recover-spec =

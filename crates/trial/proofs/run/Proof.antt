@@ -1,7 +1,6 @@
 -- `trial::run` meets its contract: question 1, and then what `begin` comes to. Assumes nothing.
-use mathlib.Core.Path.{ap, sym, _∙_}
+use mathlib.Core.Path.{sym, _∙_}
 use borrow.Author.Tests.{not-true, not-false}
-use Rattle.trial.specs.Trial.{Conclusion}
 use Rattle.trial.proofs.Calls.{short-chain, low-chain, run-refused, run-fits}
 use native.Mathlib.Omega.{arith}
 use borrow.Author.Needs.{needs}
@@ -13,8 +12,7 @@ run-areas-requires c κs = search needs
 
 returns : tie.Need-returns
 returns c =
-    let e = run-refused _ _ _ _ _ _ (sym (c .before .run-areas .ensures) ∙ not-true _ (c .if1 .taken)) in
-    (ap (λ (k : Conclusion). k .answer) e, (ap (λ (k : Conclusion). k .storage) e, tt))
+    (run-refused _ _ _ _ _ _ (sym (c .before .run-areas .ensures) ∙ not-true _ (c .if1 .taken)), tt)
 
 slice-aggregate-begin : tie.Need-slice-aggregate-begin
 slice-aggregate-begin c = search needs
@@ -34,8 +32,7 @@ returns-2 : tie.Need-returns-2
 returns-2 c =
     let h = sym (c .before .before .before .before .before .before .before .run-areas .ensures) ∙ not-false _ (c .before .before .before .before .before .before .if1 .left) in
     let begun = c .before .before .begin .ensures in
-    let e = run-fits _ _ _ _ _ _ h _ (begun .0) in
-    (ap (λ (k : Conclusion). k .answer) e, (ap (λ (k : Conclusion). k .storage) e, begun .1))
+    (run-fits _ _ _ _ _ _ h _ (begun .0), begun .1)
 
 pub run-spec : {M : Type 1} → statement M
 run-spec =

@@ -1,7 +1,6 @@
 -- `trial::run_restart` meets its contract: question 1 of all areas, and then what `begin` comes to. Assumes nothing.
-use mathlib.Core.Path.{ap, sym, _∙_}
+use mathlib.Core.Path.{sym, _∙_}
 use borrow.Author.Tests.{not-true, not-false}
-use Rattle.trial.specs.Trial.{Conclusion}
 use Rattle.trial.proofs.Calls.{short-chain, short-program, low-restart, restart-refused, program-refused, restart-fits}
 use borrow.Author.Needs.{needs}
 use Rattle.trial.proofs.run_restart.Statement.{statement}
@@ -12,8 +11,7 @@ run-areas-requires c κs = search needs
 
 returns : tie.Need-returns
 returns c =
-    let e = restart-refused _ _ _ _ _ _ _ (sym (c .before .run-areas .ensures) ∙ not-true _ (c .if1 .taken)) in
-    (ap (λ (k : Conclusion). k .answer) e, (ap (λ (k : Conclusion). k .storage) e, tt))
+    (restart-refused _ _ _ _ _ _ _ (sym (c .before .run-areas .ensures) ∙ not-true _ (c .if1 .taken)), tt)
 
 restart-areas-requires : tie.Need-restart-areas-requires
 restart-areas-requires c κs = search needs
@@ -21,8 +19,7 @@ restart-areas-requires c κs = search needs
 returns-2 : tie.Need-returns-2
 returns-2 c =
     let h = sym (c .before .before .before .run-areas .ensures) ∙ not-false _ (c .before .before .if1 .left) in
-    let e = program-refused _ _ _ _ _ _ _ h (sym (c .before .restart-areas .ensures) ∙ not-true _ (c .if2 .taken)) in
-    (ap (λ (k : Conclusion). k .answer) e, (ap (λ (k : Conclusion). k .storage) e, tt))
+    (program-refused _ _ _ _ _ _ _ h (sym (c .before .restart-areas .ensures) ∙ not-true _ (c .if2 .taken)), tt)
 
 begin-requires : tie.Need-begin-requires
 begin-requires c κs =
@@ -38,8 +35,7 @@ returns-3 c =
     let h = sym (c .before .before .before .before .before .before .before .run-areas .ensures) ∙ not-false _ (c .before .before .before .before .before .before .if1 .left) in
     let g = sym (c .before .before .before .before .before .restart-areas .ensures) ∙ not-false _ (c .before .before .before .before .if2 .left) in
     let begun = c .before .before .begin .ensures in
-    let e = restart-fits _ _ _ _ _ _ _ h g _ (begun .0) in
-    (ap (λ (k : Conclusion). k .answer) e, (ap (λ (k : Conclusion). k .storage) e, begun .1))
+    (restart-fits _ _ _ _ _ _ _ h g _ (begun .0), begun .1)
 
 pub run-restart-spec : {M : Type 1} → statement M
 run-restart-spec =
