@@ -1,10 +1,11 @@
 #!/usr/bin/env bash
-# Builds the proved library and program and runs every test but the proofs: the simulator's own tests; the hand-written cases of runs,
-# of recoveries and of whole readings on simulator and library; library against simulator; the C example; the program on its samples;
-# the edits of the definitions that demand 3 must not survive.
+# Proves every crate, builds library and program, and runs every test: the simulator's own; the hand-written cases of runs, of recoveries
+# and of whole readings on simulator and library; library against simulator; the C example; the program on its samples; the edits of
+# the definitions that demand 3 must not survive.
 set -euo pipefail
 cd "$(dirname "${BASH_SOURCE[0]}")/.."
 
+rt check
 rt staticlib giruve
 library=(-L target/staticlib -l static=giruve)
 rustc --test --edition 2021 tests/simulator_tests.rs -o target/simulator_tests
@@ -19,6 +20,5 @@ rustc -O --edition 2021 tests/differential/main.rs "${library[@]}" -o target/dif
 target/differential
 cc -std=c99 -Wall -Wextra -Werror -Iinclude examples/worked.c target/staticlib/libgiruve.a -o target/worked
 cmp <(target/worked) samples/worked.out
-rt check reading
 bash tests/program_cases.sh
 bash tests/theorem.sh
