@@ -3,8 +3,7 @@
 use crate::library;
 use crate::simulator::large::{image_of, TracksOf};
 use crate::simulator::{answer, check_image, LAST_CYLINDER};
-use crate::times::{measured, Times};
-use std::hint::black_box;
+use crate::times::measured;
 
 const FULL: usize = 1_048_576;
 const HALF: usize = FULL / 2;
@@ -21,7 +20,13 @@ pub fn print() {
     );
     for (name, tracks, calls) in workloads {
         let [half, full] = [HALF, FULL].map(|size| {
-            let times = checked(image_of(size, tracks), calls);
+            let times = measured(
+                calls,
+                0,
+                image_of(size, tracks),
+                |image| library::check_image(image),
+                |image| answer(&check_image(image, LAST_CYLINDER)),
+            );
             println!(
                 "{name:<32}{size:>10}{:>14.0}{:>14.0}{:>8.2}",
                 times.library,
@@ -38,13 +43,4 @@ pub fn print() {
             full.simulator / half.simulator
         );
     }
-}
-
-fn checked(image: Vec<u8>, calls: u32) -> Times {
-    let mut lent = image.clone();
-    let mut library = || library::check_image(black_box(&mut lent));
-    let simulator = || answer(&check_image(black_box(&image), LAST_CYLINDER));
-    let answers = [library(), simulator()];
-    assert_eq!(answers, [0, 0], "library and simulator accept the image");
-    measured(calls, library, simulator)
 }

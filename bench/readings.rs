@@ -1,33 +1,23 @@
 //! Whole readings of one chain with few cuts and with many, beside its run without faults.
 
-use crate::library::{
-    self, ReadingAreas, RestartAreas, RunAreas, ANSWER, READING_ANSWER, RECOVERY_ENTRY,
-};
-use crate::simulator::encode::{ccw, put_fault, put_home_address, put_record};
+use crate::library;
+use crate::simulator::encode::{ccw, put_fault};
 use crate::simulator::faults::Fault;
+use crate::simulator::held::{HeldReading, HeldRun, READING_ANSWER, RECOVERY_ENTRY};
+use crate::simulator::large::{put_track, TracksOf};
 use crate::simulator::pack::TrackAddress;
-use crate::simulator::reading::{read, Areas, End, Lent};
-use crate::simulator::{run, LAST_CYLINDER};
+use crate::simulator::reading::End;
 use crate::times::least;
 use std::hint::black_box;
 
-/// The areas of a reading.
-#[derive(Clone)]
+/// A reading with the areas that it writes besides.
 struct Workload {
-    chain: Vec<u8>,
-    arguments: Vec<u8>,
-    image: Vec<u8>,
-    faults: Vec<u8>,
-    extent: [u8; 8],
-    storage: Vec<u8>,
-    program: [u8; 64],
-    restart_arguments: [u8; 16],
+    held: HeldReading,
     list: Vec<u8>,
     answer: [u8; READING_ANSWER],
 }
 
 const STORAGE: usize = 65_536;
-const LIMIT: usize = 4_096;
 const DATA: usize = 200;
 
 /// A record that is read once, alone on its track.
@@ -85,23 +75,25 @@ fn workload(track: TrackAddress, numbers: &[u8]) -> Workload {
     }
     let mut image = Vec::new();
     for (track, records) in [(ONCE, 1), (OFTEN, RECORDS)] {
-        put_home_address(&mut image, track);
-        put_record(&mut image, track, 0, &[], &[0; 8]);
-        for number in 1..=records {
-            put_record(&mut image, track, number, &[], &[number; DATA]);
-        }
+        let tracks = TracksOf {
+            records,
+            data_length: DATA,
+        };
+        put_track(&mut image, track, tracks);
     }
-    Workload {
+    let held = HeldReading {
         chain: chain(),
         // Seek argument 000/01, ID of R38 there.
         arguments: vec![0, 0, 0, 0, 0, 1, 0, 0, 0, 1, RECORDS - 1],
+        storage: vec![0; STORAGE],
         image,
         faults,
-        extent: [0, 0, 0, 0, 0, 0, 0, 1],
-        storage: vec![0; STORAGE],
-        program: [0; 64],
-        restart_arguments: [0; 16],
-        list: vec![0; RECOVERY_ENTRY * LIMIT],
+        extent: vec![0, 0, 0, 0, 0, 0, 0, 1],
+        ..HeldReading::default()
+    };
+    Workload {
+        list: vec![0; RECOVERY_ENTRY * held.limit],
+        held,
         answer: [0; READING_ANSWER],
     }
 }
@@ -121,18 +113,19 @@ fn chain() -> Vec<u8> {
 
 /// Nanoseconds of the library's reading, the simulator's, and the library's run without faults.
 fn timed(workload: Workload, cuts: usize) -> [f64; 3] {
-    let [mut by_library, mut by_simulator, mut faultless] = [(); 3].map(|()| workload.clone());
+    let mut by_simulator = workload.held.clone();
+    let mut faultless = workload.held.clone().into_run();
+    faultless.faults.clear();
+    let mut by_library = workload;
     let ends = [
         read_by_library(&mut by_library),
         read_by_simulator(&mut by_simulator),
         run_by_library(&mut faultless),
     ];
     assert_eq!(ends, [library::ENDED; 3], "all end");
-    assert!(
-        by_library.storage == by_simulator.storage,
-        "both read the same"
-    );
-    assert!(by_library.storage == faultless.storage, "as without faults");
+    let storage = &by_library.held.storage;
+    assert!(*storage == by_simulator.storage, "both read the same");
+    assert!(*storage == faultless.storage, "as without faults");
     assert_eq!(made(&by_library), cuts, "every cut is recovered from");
     least(
         10,
@@ -149,40 +142,12 @@ fn made(workload: &Workload) -> usize {
 }
 
 fn read_by_library(workload: &mut Workload) -> u8 {
-    let areas = ReadingAreas {
-        run: RunAreas {
-            chain: &mut workload.chain,
-            arguments: &mut workload.arguments,
-            storage: &mut workload.storage,
-            image: &mut workload.image,
-            faults: &mut workload.faults,
-        },
-        extent: &mut workload.extent,
-        restart: RestartAreas {
-            program: &mut workload.program,
-            arguments: &mut workload.restart_arguments,
-        },
-        list: &mut workload.list,
-    };
-    library::read(areas, LIMIT, &mut workload.answer)
+    let Workload { held, list, answer } = workload;
+    library::read_held(held, list, answer)
 }
 
-fn read_by_simulator(workload: &mut Workload) -> u8 {
-    let lent = Lent {
-        run: run::Lent {
-            chain: &workload.chain,
-            arguments: &workload.arguments,
-            image: &workload.image,
-            faults: &workload.faults,
-        },
-        extent: &workload.extent,
-    };
-    let areas = Areas {
-        storage: &mut workload.storage,
-        program: &mut workload.program,
-        restart_arguments: &mut workload.restart_arguments,
-    };
-    match read(lent, areas, LIMIT, LAST_CYLINDER).map(|reading| reading.end) {
+fn read_by_simulator(held: &mut HeldReading) -> u8 {
+    match held.simulated().map(|reading| reading.end) {
         Ok(End::Limit(_)) => library::LIMIT,
         Ok(End::Stopped(_)) => library::STOPPED,
         Ok(_) => library::ENDED,
@@ -190,13 +155,6 @@ fn read_by_simulator(workload: &mut Workload) -> u8 {
     }
 }
 
-fn run_by_library(workload: &mut Workload) -> u8 {
-    let areas = RunAreas {
-        chain: &mut workload.chain,
-        arguments: &mut workload.arguments,
-        storage: &mut workload.storage,
-        image: &mut workload.image,
-        faults: &mut [],
-    };
-    library::run(areas, LIMIT, &mut [0; ANSWER])
+fn run_by_library(held: &mut HeldRun) -> u8 {
+    library::run_held(held, &mut [0; library::ANSWER])
 }

@@ -1,26 +1,18 @@
 //! Recoveries by action 5: reads of few bytes and of many, by one CCW and by a full chain of them.
 
-use crate::library::{self, RecoveryAreas, RestartAreas, RECOVERY_ANSWER};
+use crate::library;
+use crate::simulator::answer;
 use crate::simulator::encode::{self, ccw};
+use crate::simulator::held::{HeldRecovery, RECOVERY_ANSWER};
 use crate::simulator::pack::LONGEST_RECORD;
-use crate::simulator::recovery::{recover, Areas, Lent};
 use crate::simulator::report::Report;
-use crate::simulator::{answer, LAST_CYLINDER};
 use crate::times::{measured, Times};
-use std::hint::black_box;
 
 /// A cut whose correction changes the last three bytes of the read.
-#[derive(Clone)]
 struct Workload {
     name: &'static str,
     bytes: usize,
-    chain: Vec<u8>,
-    report: Vec<u8>,
-    extent: [u8; 8],
-    storage: Vec<u8>,
-    program: [u8; 64],
-    restart_arguments: [u8; 16],
-    answer: [u8; RECOVERY_ANSWER],
+    held: HeldRecovery,
 }
 
 /// Recoveries of one measurement.
@@ -47,8 +39,14 @@ pub fn print() {
 }
 
 fn printed(workload: Workload) -> Times {
-    let (name, bytes) = (workload.name, workload.bytes);
-    let times = timed(workload);
+    let Workload { name, bytes, held } = workload;
+    let times = measured(
+        CALLS,
+        library::ANSWERED,
+        held,
+        recovered_by_library,
+        recovered_by_simulator,
+    );
     println!(
         "{name:<32}{bytes:>10}{:>14.0}{:>14.0}{:>8.2}",
         times.library,
@@ -89,66 +87,22 @@ fn workload(name: &'static str, bytes: usize, chain: Vec<u8>) -> Workload {
     let report = Report {
         sense,
         csw: [0, a0, a1, a2, 0x0E, 0, 0, 0],
-        first: 0,
-        mask: None,
-        seek_argument: None,
-        tries: 0,
+        ..Report::default()
     };
-    Workload {
-        name,
-        bytes,
+    let held = HeldRecovery {
         chain,
         report: encode::report(&report),
-        extent: [0; 8],
+        extent: vec![0; 8],
         storage: vec![0; STORAGE],
-        program: [0; 64],
-        restart_arguments: [0; 16],
-        answer: [0; RECOVERY_ANSWER],
-    }
+        ..HeldRecovery::default()
+    };
+    Workload { name, bytes, held }
 }
 
-fn timed(workload: Workload) -> Times {
-    let [mut by_library, mut by_simulator] = [workload.clone(), workload];
-    let answers = [
-        recovered_by_library(&mut by_library),
-        recovered_by_simulator(&mut by_simulator),
-    ];
-    assert_eq!(answers, [library::ANSWERED; 2], "both recover");
-    assert!(
-        by_library.storage == by_simulator.storage,
-        "both correct the same"
-    );
-    measured(
-        CALLS,
-        || recovered_by_library(black_box(&mut by_library)),
-        || recovered_by_simulator(black_box(&mut by_simulator)),
-    )
+fn recovered_by_library(held: &mut HeldRecovery) -> u8 {
+    library::recover_held(held, &mut [0; RECOVERY_ANSWER])
 }
 
-fn recovered_by_library(workload: &mut Workload) -> u8 {
-    let areas = RecoveryAreas {
-        chain: &mut workload.chain,
-        report: &mut workload.report,
-        extent: &mut workload.extent,
-        storage: &mut workload.storage,
-        restart: RestartAreas {
-            program: &mut workload.program,
-            arguments: &mut workload.restart_arguments,
-        },
-    };
-    library::recover(areas, &mut workload.answer)
-}
-
-fn recovered_by_simulator(workload: &mut Workload) -> u8 {
-    let lent = Lent {
-        chain: &workload.chain,
-        report: &workload.report,
-        extent: &workload.extent,
-    };
-    let areas = Areas {
-        storage: &mut workload.storage,
-        program: &mut workload.program,
-        restart_arguments: &mut workload.restart_arguments,
-    };
-    answer(&recover(lent, areas, LAST_CYLINDER))
+fn recovered_by_simulator(held: &mut HeldRecovery) -> u8 {
+    answer(&held.simulated())
 }

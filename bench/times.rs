@@ -18,11 +18,20 @@ impl Times {
     }
 }
 
-pub fn measured(
+/// Of both with the same areas: they give this number and leave the areas alike.
+pub fn measured<A: Clone + PartialEq>(
     calls: u32,
-    mut library: impl FnMut() -> u8,
-    mut simulator: impl FnMut() -> u8,
+    number: u8,
+    areas: A,
+    library: impl Fn(&mut A) -> u8,
+    simulator: impl Fn(&mut A) -> u8,
 ) -> Times {
+    let [mut by_library, mut by_simulator] = [areas.clone(), areas];
+    let numbers = [library(&mut by_library), simulator(&mut by_simulator)];
+    assert_eq!(numbers, [number; 2], "the numbers of both");
+    assert!(by_library == by_simulator, "both leave the same");
+    let mut library = || library(black_box(&mut by_library));
+    let mut simulator = || simulator(black_box(&mut by_simulator));
     let [library, simulator] = least(calls, [&mut library, &mut simulator]);
     Times { library, simulator }
 }

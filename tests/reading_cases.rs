@@ -6,28 +6,15 @@ mod cases;
 mod library;
 mod simulator;
 
-use cases::reading::{checked, recovery, Answer, Ending, Lent, Read};
-use library::{
-    ReadingAreas, RestartAreas, RunAreas, ACTION_5, ACTION_5A, READING_ANSWER, RECOVERY_ENTRY,
-};
-use simulator::reading::{self, Areas, End, Reading};
+use cases::reading::{recovery, Answer, Ending, Lent, Read, Said};
+use library::{ACTION_5, ACTION_5A};
+use simulator::held::{READING_ANSWER, RECOVERY_ENTRY};
+use simulator::reading::{End, Reading};
 use simulator::recovery::RestartAction;
-use simulator::{run, LAST_CYLINDER};
-use std::path::Path;
 use std::process::ExitCode;
 
 fn main() -> ExitCode {
-    let directory = std::env::args().nth(1).expect("a directory of cases");
-    let directory = Path::new(&directory);
-    let passed = [
-        cases::all_pass(directory, "simulator", |text| checked(text, read_simulator)),
-        cases::all_pass(directory, "library", |text| checked(text, read_library)),
-    ];
-    if passed == [true; 2] {
-        ExitCode::SUCCESS
-    } else {
-        ExitCode::FAILURE
-    }
+    cases::check::<Said>(read_simulator, read_library)
 }
 
 fn read_simulator(lent: &mut Lent) -> Answer {
@@ -35,21 +22,7 @@ fn read_simulator(lent: &mut Lent) -> Answer {
     if lent.answer_length != READING_ANSWER || list_too_short {
         return Answer::Refused(1);
     }
-    let only_read = reading::Lent {
-        run: run::Lent {
-            chain: &lent.chain,
-            arguments: &lent.arguments,
-            image: &lent.image,
-            faults: &lent.faults,
-        },
-        extent: &lent.extent,
-    };
-    let areas = Areas {
-        storage: &mut lent.storage,
-        program: &mut lent.program,
-        restart_arguments: &mut lent.restart_arguments,
-    };
-    match reading::read(only_read, areas, lent.limit, LAST_CYLINDER) {
+    match lent.simulated() {
         Ok(reading) => Answer::Read(ended(&reading)),
         Err(refusal) => Answer::Refused(refusal.number()),
     }
@@ -81,22 +54,7 @@ const UNTOUCHED: u8 = 0xA5;
 fn read_library(lent: &mut Lent) -> Answer {
     let mut list = vec![UNTOUCHED; lent.list_length];
     let mut answer = vec![UNTOUCHED; lent.answer_length];
-    let areas = ReadingAreas {
-        run: RunAreas {
-            chain: &mut lent.chain,
-            arguments: &mut lent.arguments,
-            storage: &mut lent.storage,
-            image: &mut lent.image,
-            faults: &mut lent.faults,
-        },
-        extent: &mut lent.extent,
-        restart: RestartAreas {
-            program: &mut lent.program,
-            arguments: &mut lent.restart_arguments,
-        },
-        list: &mut list,
-    };
-    let number = library::read(areas, lent.limit, &mut answer);
+    let number = library::read_held(lent, &mut list, &mut answer);
     if ![library::ENDED, library::LIMIT, library::STOPPED].contains(&number) {
         let untouched = |bytes: &[u8]| bytes.iter().all(|&byte| byte == UNTOUCHED);
         assert!(

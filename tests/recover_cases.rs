@@ -6,27 +6,13 @@ mod cases;
 mod library;
 mod simulator;
 
-use cases::recovery::{checked, Answer, Lent};
-use library::{RecoveryAreas, RestartAreas, RECOVERY_ANSWER};
-use simulator::recovery::{self, Areas, RestartAction};
-use simulator::LAST_CYLINDER;
-use std::path::Path;
+use cases::recovery::{Answer, Lent, Said};
+use simulator::held::RECOVERY_ANSWER;
+use simulator::recovery::{self, RestartAction};
 use std::process::ExitCode;
 
 fn main() -> ExitCode {
-    let directory = std::env::args().nth(1).expect("a directory of cases");
-    let directory = Path::new(&directory);
-    let passed = [
-        cases::all_pass(directory, "simulator", |text| {
-            checked(text, recover_simulator)
-        }),
-        cases::all_pass(directory, "library", |text| checked(text, recover_library)),
-    ];
-    if passed == [true; 2] {
-        ExitCode::SUCCESS
-    } else {
-        ExitCode::FAILURE
-    }
+    cases::check::<Said>(recover_simulator, recover_library)
 }
 
 /// Each action of a restart, as cases name it and as the library writes it.
@@ -42,17 +28,7 @@ fn recover_simulator(lent: &mut Lent) -> Answer {
     if lent.answer_length != RECOVERY_ANSWER {
         return Answer::Refused(1);
     }
-    let only_read = recovery::Lent {
-        chain: &lent.chain,
-        report: &lent.report,
-        extent: &lent.extent,
-    };
-    let areas = Areas {
-        storage: &mut lent.storage,
-        program: &mut lent.program,
-        restart_arguments: &mut lent.restart_arguments,
-    };
-    match recovery::recover(only_read, areas, LAST_CYLINDER) {
+    match lent.simulated() {
         Ok(recovered) => answered(recovered.answer),
         Err(refusal) => Answer::Refused(refusal.number()),
     }
@@ -78,17 +54,7 @@ fn restart(is_it: impl Fn(&(RestartAction, &str, u8)) -> bool) -> Answer {
 fn recover_library(lent: &mut Lent) -> Answer {
     let untouched = vec![0xA5; lent.answer_length];
     let mut answer = untouched.clone();
-    let areas = RecoveryAreas {
-        chain: &mut lent.chain,
-        report: &mut lent.report,
-        extent: &mut lent.extent,
-        storage: &mut lent.storage,
-        restart: RestartAreas {
-            program: &mut lent.program,
-            arguments: &mut lent.restart_arguments,
-        },
-    };
-    let number = library::recover(areas, &mut answer);
+    let number = library::recover_held(lent, &mut answer);
     if number != library::ANSWERED {
         assert_eq!(answer, untouched, "a refusal writes nothing");
         return Answer::Refused(number);

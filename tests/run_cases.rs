@@ -5,50 +5,17 @@ mod cases;
 mod library;
 mod simulator;
 
-use cases::{taken_area, Answer, Ending, Lent, Ran};
-use library::{RestartAreas, RunAreas, ANSWER};
-use simulator::channel::Restart;
-use simulator::run::{self, End, Outcome};
-use simulator::LAST_CYLINDER;
-use std::path::Path;
+use cases::run::{taken_area, Answer, Ending, Lent, Ran, Said};
+use library::ANSWER;
+use simulator::run::{End, Outcome};
 use std::process::ExitCode;
 
 fn main() -> ExitCode {
-    let directory = std::env::args().nth(1).expect("a directory of cases");
-    let directory = Path::new(&directory);
-    let passed = [
-        cases::all_pass(directory, "simulator", |text| {
-            cases::checked(text, run_simulator)
-        }),
-        cases::all_pass(directory, "library", |text| {
-            cases::checked(text, run_library)
-        }),
-    ];
-    if passed == [true; 2] {
-        ExitCode::SUCCESS
-    } else {
-        ExitCode::FAILURE
-    }
+    cases::check::<Said>(run_simulator, run_library)
 }
 
 fn run_simulator(lent: &mut Lent) -> Answer {
-    let only_read = run::Lent {
-        chain: &lent.chain,
-        arguments: &lent.arguments,
-        image: &lent.image,
-        faults: &lent.faults,
-    };
-    let outcome = match &lent.restart {
-        None => run::run(only_read, &mut lent.storage, lent.limit, LAST_CYLINDER),
-        Some(restart) => {
-            let restart = Restart {
-                program: &restart.program,
-                arguments: &restart.arguments,
-            };
-            run::run_restarted(only_read, restart, &mut lent.storage, LAST_CYLINDER)
-        }
-    };
-    match outcome {
+    match lent.simulated() {
         Ok(outcome) => Answer::Ran(ran(outcome)),
         Err(refusal) => Answer::Refused(refusal.number()),
     }
@@ -81,23 +48,7 @@ fn ran(outcome: Outcome) -> Ran {
 fn run_library(lent: &mut Lent) -> Answer {
     const UNTOUCHED: [u8; ANSWER] = [0xA5; ANSWER];
     let mut answer = UNTOUCHED;
-    let areas = RunAreas {
-        chain: &mut lent.chain,
-        arguments: &mut lent.arguments,
-        storage: &mut lent.storage,
-        image: &mut lent.image,
-        faults: &mut lent.faults,
-    };
-    let number = match &mut lent.restart {
-        None => library::run(areas, lent.limit, &mut answer),
-        Some(restart) => {
-            let restart = RestartAreas {
-                program: &mut restart.program,
-                arguments: &mut restart.arguments,
-            };
-            library::run_restart(areas, restart, &mut answer)
-        }
-    };
+    let number = library::run_held(lent, &mut answer);
     match number {
         library::ENDED => Answer::Ran(answered(Ending::End, &answer)),
         library::LIMIT => Answer::Ran(answered(Ending::Limit, &answer)),

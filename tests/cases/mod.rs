@@ -1,103 +1,142 @@
-//! Runs written by hand: what is lent and what must come out. `reader` says how they are written;
-//! `recovery` has recoveries and `reading` whole readings in the same way.
+//! Calls written by hand: what is lent and what must come out. `text` says how they are written;
+//! `run`, `recovery` and `reading` have the words.
 //!
-//! Nothing here knows what is run; a `Runner` does that.
+//! Nothing here knows what is called; a `Runner` does that.
 
 // Each program that includes this uses a part of it.
 #![allow(dead_code)]
 
-pub mod reader;
 pub mod reading;
 pub mod recovery;
+pub mod run;
 mod text;
 
 use std::fmt::Debug;
 use std::fs;
 use std::path::{Path, PathBuf};
+use std::process::ExitCode;
+use text::Statement;
 
-/// The areas and the limit of a run.
-#[derive(Clone, Debug, PartialEq, Eq)]
-pub struct Lent {
-    pub chain: Vec<u8>,
-    pub arguments: Vec<u8>,
-    pub storage: Vec<u8>,
-    pub image: Vec<u8>,
-    pub faults: Vec<u8>,
-    /// The chain's; a restarted run has its own.
-    pub limit: usize,
-    pub restart: Option<Restart>,
+/// A kind of call; a value of it is what a case says of the answer.
+pub trait Call: Clone + Default {
+    /// By default what is lent where nothing is said.
+    type Lent: Clone + Debug + Default + PartialEq;
+    type Answer: Debug + PartialEq;
+
+    /// The words of which each case has one.
+    const ANSWERS: &'static [&'static str];
+    /// The words that may be said again.
+    const REPEATED: &'static [&'static str];
+
+    /// The area, only read, whose bytes this word says.
+    fn only_read<'a>(lent: &'a mut Self::Lent, word: &str) -> Option<&'a mut Vec<u8>>;
+
+    fn written(lent: &mut Self::Lent) -> Vec<Written<'_>>;
+
+    /// Takes a statement with any other word.
+    fn take(&mut self, lent: &mut Self::Lent, statement: &Statement) -> Result<(), String>;
+
+    fn answer(self) -> Self::Answer;
+
+    /// What is answered otherwise than expected, a line each.
+    fn differences(expected: &Self::Answer, shown: &Self::Answer) -> Vec<String> {
+        different("answer", expected, shown).into_iter().collect()
+    }
 }
 
-/// The areas that a restarted run has besides.
-#[derive(Clone, Debug, Default, PartialEq, Eq)]
-pub struct Restart {
-    pub program: Vec<u8>,
-    pub arguments: Vec<u8>,
+/// An area that a call may write.
+pub struct Written<'a> {
+    /// The words that say what it holds before, and what is left.
+    lent: &'static str,
+    left: &'static str,
+    bytes: &'a mut Vec<u8>,
 }
 
-#[derive(Clone, Copy, Debug, PartialEq, Eq)]
-pub enum Ending {
-    End,
-    Limit,
+impl Written<'_> {
+    fn storage(bytes: &mut Vec<u8>) -> Written<'_> {
+        Written {
+            lent: "storage",
+            left: "storage-after",
+            bytes,
+        }
+    }
+
+    fn restart_program(bytes: &mut Vec<u8>) -> Written<'_> {
+        Written {
+            lent: "program-lent",
+            left: "restart-program",
+            bytes,
+        }
+    }
+
+    fn restart_arguments(bytes: &mut Vec<u8>) -> Written<'_> {
+        Written {
+            lent: "arguments-lent",
+            left: "restart-arguments",
+            bytes,
+        }
+    }
 }
 
-#[derive(Clone, Debug, PartialEq, Eq)]
-pub enum Answer {
-    /// The question's number.
-    Refused(u8),
-    Ran(Ran),
+/// Makes the call with what is lent, and leaves it as the call does.
+pub type Runner<C> = fn(&mut <C as Call>::Lent) -> <C as Call>::Answer;
+
+pub struct Case<C: Call> {
+    pub name: String,
+    pub lent: C::Lent,
+    pub answer: C::Answer,
+    /// What is lent, as it is left.
+    pub left: C::Lent,
 }
 
-/// What comes out of a run besides storage.
-#[derive(Clone, Debug, PartialEq, Eq)]
-pub struct Ran {
-    pub ending: Ending,
-    pub csw: [u8; 8],
-    pub sense: [u8; 24],
-    pub mask: Option<u8>,
-    /// Address of the first CCW of the read that a faulted data area cut.
-    pub cut: Option<usize>,
-    /// The data areas taken, each as `taken_area` writes it; none where this is not known.
-    pub taken: Option<Vec<String>>,
+impl<C: Call> Case<C> {
+    /// What comes out otherwise than the case says, a line each.
+    fn differences(&self, run: Runner<C>) -> Vec<String> {
+        let mut came = self.lent.clone();
+        let answer = run(&mut came);
+        let mut left = self.left.clone();
+        let mut differences = C::differences(&self.answer, &answer);
+        let written = C::written(&mut left).into_iter();
+        for (left, came) in written.zip(C::written(&mut came)) {
+            differences.extend(different(left.left, left.bytes, came.bytes));
+            left.bytes.clear();
+            came.bytes.clear();
+        }
+        differences.extend(different("an area that is only read", &left, &came));
+        differences
+    }
 }
 
-/// A data area that a read took, and how many of its bytes went to storage.
-pub fn taken_area(cylinder: u16, head: u16, number: u8, faulted: bool, stored: usize) -> String {
-    let state = if faulted { "faulted" } else { "good" };
-    format!("{cylinder:03} {head:02} {number:03} {state} {stored}")
+fn different<T: Debug + PartialEq>(what: &str, expected: &T, shown: &T) -> Option<String> {
+    (expected != shown).then(|| format!("{what}: expected {expected:02X?}, came {shown:02X?}"))
 }
 
-/// Runs what is lent and leaves it as the run does.
-pub type Runner = fn(&mut Lent) -> Answer;
-
-/// The name of a case, and what came out otherwise than it says, a line each.
-pub type Checked = (String, Vec<String>);
-
-/// Runs every case of a text.
-pub fn checked(text: &str, run: Runner) -> Result<Vec<Checked>, String> {
-    let cases = reader::read(text)?;
-    let checked = |case: Case| (case.name.clone(), case.differences(run));
-    Ok(cases.into_iter().map(checked).collect())
+/// Runs simulator and library over every case of the directory given to the program.
+pub fn check<C: Call>(simulator: Runner<C>, library: Runner<C>) -> ExitCode {
+    let directory = std::env::args().nth(1).expect("a directory of cases");
+    let runners = [("simulator", simulator), ("library", library)];
+    let passed = runners.map(|(name, run)| all_pass::<C>(Path::new(&directory), name, run));
+    if passed == [true; 2] {
+        ExitCode::SUCCESS
+    } else {
+        ExitCode::FAILURE
+    }
 }
 
-/// Has every case of the directory's `.txt` files checked, prints what comes out otherwise than
-/// they say, and tells whether nothing did.
-pub fn all_pass(
-    directory: &Path,
-    runner: &str,
-    checked: impl Fn(&str) -> Result<Vec<Checked>, String>,
-) -> bool {
+/// Runs every case of the directory's `.txt` files, prints what comes out otherwise than they say,
+/// and tells whether nothing did.
+fn all_pass<C: Call>(directory: &Path, runner: &str, run: Runner<C>) -> bool {
     let mut cases = 0;
     let mut failed = 0;
     for file in files(directory) {
         let text = fs::read_to_string(&file).expect("the file can be read");
-        let checked = checked(&text);
-        let checked = checked.unwrap_or_else(|error| panic!("{}: {error}", file.display()));
-        for (name, differences) in checked {
+        let read = text::read::<C>(&text);
+        for case in read.unwrap_or_else(|error| panic!("{}: {error}", file.display())) {
+            let differences = case.differences(run);
             cases += 1;
             if !differences.is_empty() {
                 failed += 1;
-                println!("{runner}: {}, {name}", file.display());
+                println!("{runner}: {}, {}", file.display(), case.name);
             }
             for difference in differences {
                 println!("  {difference}");
@@ -118,134 +157,10 @@ fn files(directory: &Path) -> Vec<PathBuf> {
     files
 }
 
-#[derive(Clone, Debug)]
-pub struct Case {
-    pub name: String,
-    pub lent: Lent,
-    pub answer: Answer,
-    pub storage_after: Vec<u8>,
-}
-
-impl Case {
-    /// What comes out otherwise than the case says, a line each.
-    pub fn differences(&self, run: Runner) -> Vec<String> {
-        let mut lent = self.lent.clone();
-        let answer = run(&mut lent);
-        let mut differences = match (&self.answer, &answer) {
-            (Answer::Ran(expected), Answer::Ran(shown)) => compare(expected, shown),
-            (expected, shown) => different("answer", expected, shown).into_iter().collect(),
-        };
-        let storage = std::mem::replace(&mut lent.storage, self.lent.storage.clone());
-        differences.extend(different("storage", &self.storage_after, &storage));
-        if lent != self.lent {
-            differences.push("an area that is only read was written".to_string());
-        }
-        differences
-    }
-}
-
-fn compare(expected: &Ran, shown: &Ran) -> Vec<String> {
-    let taken = match (&expected.taken, &shown.taken) {
-        (Some(expected), Some(shown)) => different("taken", expected, shown),
-        _ => None,
-    };
-    [
-        different("ending", &expected.ending, &shown.ending),
-        different("CSW", &expected.csw, &shown.csw),
-        different("sense", &expected.sense, &shown.sense),
-        different("mask", &expected.mask, &shown.mask),
-        different("cut", &expected.cut, &shown.cut),
-        taken,
-    ]
-    .into_iter()
-    .flatten()
-    .collect()
-}
-
-fn different<T: Debug + PartialEq>(what: &str, expected: &T, shown: &T) -> Option<String> {
-    (expected != shown).then(|| format!("{what}: expected {expected:02X?}, came {shown:02X?}"))
-}
-
+/// The parts of which differences are told, of a text's first case.
 #[cfg(test)]
-mod tests {
-    use super::*;
-
-    fn case() -> Case {
-        let text = "case a\nstorage 01\nend 000008 0C 00 0000\nstorage-after 02\ntaken none\n";
-        reader::read(text).unwrap().remove(0)
-    }
-
-    fn expected() -> Ran {
-        match case().answer {
-            Answer::Ran(ran) => ran,
-            Answer::Refused(_) => unreachable!("the case is not refused"),
-        }
-    }
-
-    fn right(lent: &mut Lent) -> Answer {
-        lent.storage[0] = 2;
-        Answer::Ran(expected())
-    }
-
-    /// Whether one difference is told, of this part.
-    fn told(run: Runner, part: &str) -> bool {
-        let differences = case().differences(run);
-        matches!(&differences[..], [difference] if difference.starts_with(part))
-    }
-
-    #[test]
-    fn nothing_to_tell() {
-        assert!(case().differences(right).is_empty());
-        let not_known: Runner = |lent| {
-            right(lent);
-            Answer::Ran(Ran {
-                taken: None,
-                ..expected()
-            })
-        };
-        assert!(case().differences(not_known).is_empty());
-    }
-
-    #[test]
-    fn each_part_is_compared() {
-        assert!(told(|_| Answer::Ran(expected()), "storage"));
-        assert!(told(
-            |lent| {
-                right(lent);
-                Answer::Refused(1)
-            },
-            "answer"
-        ));
-        assert!(told(
-            |lent| {
-                lent.arguments.push(0);
-                right(lent)
-            },
-            "an area"
-        ));
-        let wrong: [(Runner, &str); 6] = [
-            (
-                |lent| wrong_in(lent, |ran| ran.ending = Ending::Limit),
-                "ending",
-            ),
-            (|lent| wrong_in(lent, |ran| ran.csw[3] = 0), "CSW"),
-            (|lent| wrong_in(lent, |ran| ran.sense[0] = 1), "sense"),
-            (|lent| wrong_in(lent, |ran| ran.mask = Some(0)), "mask"),
-            (|lent| wrong_in(lent, |ran| ran.cut = Some(0)), "cut"),
-            (
-                |lent| wrong_in(lent, |ran| ran.taken = Some(vec![String::new()])),
-                "taken",
-            ),
-        ];
-        for (run, part) in wrong {
-            assert!(told(run, part));
-        }
-    }
-
-    fn wrong_in(lent: &mut Lent, change: fn(&mut Ran)) -> Answer {
-        lent.storage[0] = 2;
-        let mut ran = expected();
-        change(&mut ran);
-        Answer::Ran(ran)
-    }
+fn told<C: Call>(text: &str, run: Runner<C>) -> Vec<String> {
+    let differences = text::read::<C>(text).unwrap()[0].differences(run);
+    let parts = differences.iter().map(|line| line.split(':').next());
+    parts.map(|part| part.unwrap().to_string()).collect()
 }

@@ -1,4 +1,4 @@
-//! Whole readings written by hand: what is lent and what must come out.
+//! Whole readings written by hand.
 //!
 //! How they are written, besides what `text` says:
 //! - `chain`, `arguments`, `storage`, `image`, `faults`, `extent`: bytes lent; none where not said.
@@ -13,27 +13,14 @@
 //! - `storage-after`, `restart-program`, `restart-arguments`: what is left; what was lent where not
 //!   said.
 
-use super::text::{self, Statement};
-use super::{different, Checked};
+use super::text::Statement;
+use super::{Call, Written};
+pub use crate::simulator::held::HeldReading as Lent;
+use crate::simulator::held::RECOVERY_ENTRY;
 
-/// The areas and the limit of a reading.
-#[derive(Clone, Debug, PartialEq, Eq)]
-pub struct Lent {
-    pub chain: Vec<u8>,
-    pub arguments: Vec<u8>,
-    pub storage: Vec<u8>,
-    pub image: Vec<u8>,
-    pub faults: Vec<u8>,
-    pub extent: Vec<u8>,
-    pub limit: usize,
-    pub program: Vec<u8>,
-    pub restart_arguments: Vec<u8>,
-    pub list_length: usize,
-    pub answer_length: usize,
-}
-
-#[derive(Clone, Copy, Debug, PartialEq, Eq)]
+#[derive(Clone, Copy, Debug, Default, PartialEq, Eq)]
 pub enum Ending {
+    #[default]
     End,
     Limit,
     /// By this number.
@@ -48,7 +35,7 @@ pub enum Answer {
 }
 
 /// What comes out of a reading besides its areas.
-#[derive(Clone, Debug, PartialEq, Eq)]
+#[derive(Clone, Debug, Default, PartialEq, Eq)]
 pub struct Read {
     pub ending: Ending,
     pub csw: [u8; 8],
@@ -61,123 +48,54 @@ pub fn recovery(action: &str, cylinder: u16, head: u16, number: u8) -> String {
     format!("{action} {cylinder:03} {head:02} {number:03}")
 }
 
-/// Reads what is lent and leaves it as the reading does.
-pub type Runner = fn(&mut Lent) -> Answer;
-
-#[derive(Clone, Debug)]
-pub struct Case {
-    pub name: String,
-    pub lent: Lent,
-    pub answer: Answer,
-    /// What is lent, as it is left.
-    pub left: Lent,
-}
-
-/// Runs every case of a text.
-pub fn checked(text: &str, run: Runner) -> Result<Vec<Checked>, String> {
-    let cases = text::read::<Draft>(text)?;
-    let checked = |case: Case| (case.name.clone(), case.differences(run));
-    Ok(cases.into_iter().map(checked).collect())
-}
-
-impl Case {
-    /// What comes out otherwise than the case says, a line each.
-    fn differences(&self, run: Runner) -> Vec<String> {
-        let mut came = self.lent.clone();
-        let answer = run(&mut came);
-        let left = &self.left;
-        [
-            different("answer", &self.answer, &answer),
-            different("storage", &left.storage, &came.storage),
-            different("restart program", &left.program, &came.program),
-            different(
-                "restart arguments",
-                &left.restart_arguments,
-                &came.restart_arguments,
-            ),
-            different(
-                "an area that is only read",
-                &only_read(left),
-                &only_read(&came),
-            ),
-        ]
-        .into_iter()
-        .flatten()
-        .collect()
-    }
-}
-
-fn only_read(lent: &Lent) -> [&[u8]; 5] {
-    [
-        &lent.chain,
-        &lent.arguments,
-        &lent.image,
-        &lent.faults,
-        &lent.extent,
-    ]
-}
-
-/// A case of which some is said.
-#[derive(Clone)]
-struct Draft {
-    lent: Lent,
-    list_length: Option<usize>,
+/// What is said of a reading's answer.
+#[derive(Clone, Default)]
+pub struct Said {
     refused: Option<u8>,
     read: Read,
-    storage_after: Option<Vec<u8>>,
-    program_after: Option<Vec<u8>>,
-    arguments_after: Option<Vec<u8>>,
+    /// Whether the list has another length than the limit asks for.
+    has_list_length: bool,
 }
 
-impl Default for Draft {
-    fn default() -> Draft {
-        Draft {
-            lent: Lent {
-                chain: Vec::new(),
-                arguments: Vec::new(),
-                storage: Vec::new(),
-                image: Vec::new(),
-                faults: Vec::new(),
-                extent: Vec::new(),
-                limit: 4_096,
-                program: vec![0xA5; 64],
-                restart_arguments: vec![0xA5; 16],
-                list_length: 0,
-                answer_length: 11,
-            },
-            list_length: None,
-            refused: None,
-            read: Read {
-                ending: Ending::End,
-                csw: [0; 8],
-                recoveries: Vec::new(),
-            },
-            storage_after: None,
-            program_after: None,
-            arguments_after: None,
-        }
-    }
-}
-
-impl text::Draft for Draft {
-    type Case = Case;
+impl Call for Said {
+    type Lent = Lent;
+    type Answer = Answer;
 
     const ANSWERS: &'static [&'static str] = &["end", "limit", "stopped", "refused"];
     const REPEATED: &'static [&'static str] = &["action"];
 
-    fn take(&mut self, statement: &Statement) -> Result<(), String> {
+    fn only_read<'a>(lent: &'a mut Lent, word: &str) -> Option<&'a mut Vec<u8>> {
+        Some(match word {
+            "chain" => &mut lent.chain,
+            "arguments" => &mut lent.arguments,
+            "image" => &mut lent.image,
+            "faults" => &mut lent.faults,
+            "extent" => &mut lent.extent,
+            _ => return None,
+        })
+    }
+
+    fn written(lent: &mut Lent) -> Vec<Written<'_>> {
+        vec![
+            Written::storage(&mut lent.storage),
+            Written::restart_program(&mut lent.program),
+            Written::restart_arguments(&mut lent.restart_arguments),
+        ]
+    }
+
+    fn take(&mut self, lent: &mut Lent, statement: &Statement) -> Result<(), String> {
         match statement.word {
-            "chain" => self.lent.chain = statement.bytes()?,
-            "arguments" => self.lent.arguments = statement.bytes()?,
-            "storage" => self.lent.storage = statement.bytes()?,
-            "image" => self.lent.image = statement.bytes()?,
-            "faults" => self.lent.faults = statement.bytes()?,
-            "extent" => self.lent.extent = statement.bytes()?,
-            "command-limit" => self.lent.limit = statement.number()?,
-            "program-lent" => self.lent.program = statement.bytes()?,
-            "arguments-lent" => self.lent.restart_arguments = statement.bytes()?,
-            "list-length" => self.list_length = Some(statement.number()?),
-            "answer-length" => self.lent.answer_length = statement.number()?,
+            "command-limit" => {
+                lent.limit = statement.number()?;
+                if !self.has_list_length {
+                    lent.list_length = RECOVERY_ENTRY * lent.limit;
+                }
+            }
+            "list-length" => {
+                lent.list_length = statement.number()?;
+                self.has_list_length = true;
+            }
+            "answer-length" => lent.answer_length = statement.number()?,
             "end" => self.ended(Ending::End, statement)?,
             "limit" => self.ended(Ending::Limit, statement)?,
             "stopped" => {
@@ -186,32 +104,17 @@ impl text::Draft for Draft {
             }
             "refused" => self.refused = Some(statement.number()? as u8),
             "action" => self.read.recoveries.push(statement.values.join(" ")),
-            "storage-after" => self.storage_after = Some(statement.bytes()?),
-            "restart-program" => self.program_after = Some(statement.bytes()?),
-            "restart-arguments" => self.arguments_after = Some(statement.bytes()?),
             _ => return Err(statement.error("unknown")),
         }
         Ok(())
     }
 
-    fn case(mut self, name: String) -> Case {
-        self.lent.list_length = self.list_length.unwrap_or(6 * self.lent.limit);
-        let mut left = self.lent.clone();
-        left.storage = self.storage_after.unwrap_or(left.storage);
-        left.program = self.program_after.unwrap_or(left.program);
-        left.restart_arguments = self.arguments_after.unwrap_or(left.restart_arguments);
-        Case {
-            name,
-            lent: self.lent,
-            answer: self
-                .refused
-                .map_or(Answer::Read(self.read), Answer::Refused),
-            left,
-        }
+    fn answer(self) -> Answer {
+        (self.refused).map_or(Answer::Read(self.read), Answer::Refused)
     }
 }
 
-impl Draft {
+impl Said {
     fn ended(&mut self, ending: Ending, csw: &Statement) -> Result<(), String> {
         self.read.ending = ending;
         self.read.csw = csw.csw()?;
@@ -222,6 +125,7 @@ impl Draft {
 #[cfg(test)]
 mod tests {
     use super::*;
+    use crate::cases::{text, told, Runner};
 
     const TEXT: &str = "chain 06\nstorage 01\narguments 07\nimage 08\nfaults 09\nextent 0A\n\
         case stops\nstopped 9 000020 0E 00 0203\naction 5A 000 01 001\naction 5 410 18 255\n\
@@ -243,16 +147,9 @@ mod tests {
         stopped()
     }
 
-    /// The parts of which differences are told, of the case that stops.
-    fn told(run: Runner) -> Vec<String> {
-        let case = &checked(TEXT, run).unwrap()[0];
-        let parts = case.1.iter().map(|line| line.split(':').next().unwrap());
-        parts.map(str::to_string).collect()
-    }
-
     #[test]
     fn what_is_said() {
-        let cases = text::read::<Draft>(TEXT).unwrap();
+        let cases = text::read::<Said>(TEXT).unwrap();
         let [stops, refuses] = &cases[..] else {
             panic!("two cases");
         };
@@ -265,7 +162,14 @@ mod tests {
         assert_eq!(refuses.left, refuses.lent);
         let lent = &refuses.lent;
         assert_eq!((lent.list_length, lent.answer_length), (9, 10));
-        assert_eq!(only_read(lent), [[6], [7], [8], [9], [10]]);
+        let only_read = [
+            &lent.chain,
+            &lent.arguments,
+            &lent.image,
+            &lent.faults,
+            &lent.extent,
+        ];
+        assert_eq!(only_read, [&[6], &[7], &[8], &[9], &[10]]);
         assert_eq!(
             (&lent.program[..], &lent.restart_arguments[..]),
             (&[][..], &[5][..])
@@ -280,7 +184,7 @@ mod tests {
             ("stopped 2", Ending::Stopped(2)),
         ] {
             let text = format!("case a\n{said} 000008 0C 40 0203\n");
-            let Answer::Read(read) = &text::read::<Draft>(&text).unwrap()[0].answer else {
+            let Answer::Read(read) = &text::read::<Said>(&text).unwrap()[0].answer else {
                 panic!("not refused");
             };
             assert_eq!(
@@ -290,28 +194,28 @@ mod tests {
             assert!(read.recoveries.is_empty());
         }
         for wrong in ["stopped", "stopped x 00*7", "stopped 2 00*6", "action 5"] {
-            assert!(text::read::<Draft>(&format!("case a\n{wrong}\n")).is_err());
+            assert!(text::read::<Said>(&format!("case a\n{wrong}\n")).is_err());
         }
     }
 
     #[test]
     fn each_part_is_compared() {
-        assert!(told(stops).is_empty());
-        let parts = ["storage", "restart program", "restart arguments"];
-        assert_eq!(told(|_| stopped()), parts);
-        let one_less: Runner = |lent| {
-            stops(lent);
-            let Answer::Read(mut read) = stopped() else {
+        assert!(told::<Said>(TEXT, stops).is_empty());
+        let parts = ["storage-after", "restart-program", "restart-arguments"];
+        assert_eq!(told::<Said>(TEXT, |_| stopped()), parts);
+        let one_less: Runner<Said> = |lent| {
+            let Answer::Read(mut read) = stops(lent) else {
                 unreachable!("not refused");
             };
             read.recoveries.pop();
             Answer::Read(read)
         };
-        assert_eq!(told(one_less), ["answer"]);
-        let image_written: Runner = |lent| {
+        assert_eq!(told::<Said>(TEXT, one_less), ["answer"]);
+        let image_written: Runner<Said> = |lent| {
             lent.image.push(0);
             stops(lent)
         };
-        assert_eq!(told(image_written), ["an area that is only read"]);
+        let only_read = ["an area that is only read"];
+        assert_eq!(told::<Said>(TEXT, image_written), only_read);
     }
 }

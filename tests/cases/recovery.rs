@@ -1,4 +1,4 @@
-//! Recoveries written by hand: what is lent and what must come out.
+//! Recoveries written by hand.
 //!
 //! How they are written, besides what `text` says:
 //! - `chain`, `report`, `extent`, `storage`: bytes lent; none where not said.
@@ -10,20 +10,9 @@
 //! - `storage-after`, `restart-program`, `restart-arguments`: what is left; what was lent where not
 //!   said.
 
-use super::text::{self, Statement};
-use super::{different, Checked};
-
-/// The areas of a recovery.
-#[derive(Clone, Debug, PartialEq, Eq)]
-pub struct Lent {
-    pub chain: Vec<u8>,
-    pub report: Vec<u8>,
-    pub extent: Vec<u8>,
-    pub storage: Vec<u8>,
-    pub program: Vec<u8>,
-    pub restart_arguments: Vec<u8>,
-    pub answer_length: usize,
-}
+use super::text::Statement;
+use super::{Call, Written};
+pub use crate::simulator::held::HeldRecovery as Lent;
 
 #[derive(Clone, Debug, PartialEq, Eq)]
 pub enum Answer {
@@ -39,82 +28,13 @@ pub enum Answer {
     Restart(String),
 }
 
-/// Recovers from what is lent and leaves it as the recovery does.
-pub type Runner = fn(&mut Lent) -> Answer;
+/// What is said of a recovery's answer.
+#[derive(Clone, Default)]
+pub struct Said(Option<Answer>);
 
-#[derive(Clone, Debug)]
-pub struct Case {
-    pub name: String,
-    pub lent: Lent,
-    pub answer: Answer,
-    /// What is lent, as it is left.
-    pub left: Lent,
-}
-
-/// Runs every case of a text.
-pub fn checked(text: &str, run: Runner) -> Result<Vec<Checked>, String> {
-    let cases = text::read::<Draft>(text)?;
-    let checked = |case: Case| (case.name.clone(), case.differences(run));
-    Ok(cases.into_iter().map(checked).collect())
-}
-
-impl Case {
-    /// What comes out otherwise than the case says, a line each.
-    fn differences(&self, run: Runner) -> Vec<String> {
-        let mut came = self.lent.clone();
-        let answer = run(&mut came);
-        let left = &self.left;
-        let only_read = [&left.chain, &left.report, &left.extent];
-        let only_read_came = [&came.chain, &came.report, &came.extent];
-        [
-            different("answer", &self.answer, &answer),
-            different("storage", &left.storage, &came.storage),
-            different("restart program", &left.program, &came.program),
-            different(
-                "restart arguments",
-                &left.restart_arguments,
-                &came.restart_arguments,
-            ),
-            different("an area that is only read", &only_read, &only_read_came),
-        ]
-        .into_iter()
-        .flatten()
-        .collect()
-    }
-}
-
-/// A case of which some is said.
-#[derive(Clone)]
-struct Draft {
-    lent: Lent,
-    answer: Answer,
-    storage_after: Option<Vec<u8>>,
-    program_after: Option<Vec<u8>>,
-    arguments_after: Option<Vec<u8>>,
-}
-
-impl Default for Draft {
-    fn default() -> Draft {
-        Draft {
-            lent: Lent {
-                chain: Vec::new(),
-                report: Vec::new(),
-                extent: Vec::new(),
-                storage: Vec::new(),
-                program: vec![0xA5; 64],
-                restart_arguments: vec![0xA5; 16],
-                answer_length: 10,
-            },
-            answer: Answer::Repeat,
-            storage_after: None,
-            program_after: None,
-            arguments_after: None,
-        }
-    }
-}
-
-impl text::Draft for Draft {
-    type Case = Case;
+impl Call for Said {
+    type Lent = Lent;
+    type Answer = Answer;
 
     const ANSWERS: &'static [&'static str] = &[
         "refused",
@@ -126,52 +46,53 @@ impl text::Draft for Draft {
     ];
     const REPEATED: &'static [&'static str] = &[];
 
-    fn take(&mut self, statement: &Statement) -> Result<(), String> {
-        match statement.word {
-            "chain" => self.lent.chain = statement.bytes()?,
-            "report" => self.lent.report = statement.bytes()?,
-            "extent" => self.lent.extent = statement.bytes()?,
-            "storage" => self.lent.storage = statement.bytes()?,
-            "program-lent" => self.lent.program = statement.bytes()?,
-            "arguments-lent" => self.lent.restart_arguments = statement.bytes()?,
-            "answer-length" => self.lent.answer_length = statement.number()?,
-            "storage-after" => self.storage_after = Some(statement.bytes()?),
-            "restart-program" => self.program_after = Some(statement.bytes()?),
-            "restart-arguments" => self.arguments_after = Some(statement.bytes()?),
-            "refused" => self.answer = Answer::Refused(statement.number()? as u8),
-            "action" => {
-                self.answer = match statement.number()? {
-                    1 => Answer::Action1,
-                    2 => Answer::Action2,
-                    _ => return Err(statement.error("1 or 2 is wanted")),
-                }
+    fn only_read<'a>(lent: &'a mut Lent, word: &str) -> Option<&'a mut Vec<u8>> {
+        Some(match word {
+            "chain" => &mut lent.chain,
+            "report" => &mut lent.report,
+            "extent" => &mut lent.extent,
+            _ => return None,
+        })
+    }
+
+    fn written(lent: &mut Lent) -> Vec<Written<'_>> {
+        vec![
+            Written::storage(&mut lent.storage),
+            Written::restart_program(&mut lent.program),
+            Written::restart_arguments(&mut lent.restart_arguments),
+        ]
+    }
+
+    fn take(&mut self, lent: &mut Lent, statement: &Statement) -> Result<(), String> {
+        self.0 = Some(match statement.word {
+            "answer-length" => {
+                lent.answer_length = statement.number()?;
+                return Ok(());
             }
-            "repeat" => self.answer = Answer::Repeat,
-            "corrected-only" => self.answer = Answer::CorrectedOnly,
-            "finished" => self.answer = Answer::Finished(statement.csw()?),
-            "restart" => self.answer = Answer::Restart(statement.values.join(" ")),
+            "refused" => Answer::Refused(statement.number()? as u8),
+            "action" => match statement.number()? {
+                1 => Answer::Action1,
+                2 => Answer::Action2,
+                _ => return Err(statement.error("1 or 2 is wanted")),
+            },
+            "repeat" => Answer::Repeat,
+            "corrected-only" => Answer::CorrectedOnly,
+            "finished" => Answer::Finished(statement.csw()?),
+            "restart" => Answer::Restart(statement.values.join(" ")),
             _ => return Err(statement.error("unknown")),
-        }
+        });
         Ok(())
     }
 
-    fn case(self, name: String) -> Case {
-        let mut left = self.lent.clone();
-        left.storage = self.storage_after.unwrap_or(left.storage);
-        left.program = self.program_after.unwrap_or(left.program);
-        left.restart_arguments = self.arguments_after.unwrap_or(left.restart_arguments);
-        Case {
-            name,
-            lent: self.lent,
-            answer: self.answer,
-            left,
-        }
+    fn answer(self) -> Answer {
+        self.0.expect("each case has one")
     }
 }
 
 #[cfg(test)]
 mod tests {
     use super::*;
+    use crate::cases::{text, told, Runner};
 
     const TEXT: &str = "chain 06\nstorage 01\n\
         case restarts\nrestart 5A\nstorage-after 02\nrestart-program 03\nrestart-arguments 04\n\
@@ -184,16 +105,9 @@ mod tests {
         Answer::Restart("5A".to_string())
     }
 
-    /// The parts of which differences are told, of the case that restarts.
-    fn told(run: Runner) -> Vec<String> {
-        let case = &checked(TEXT, run).unwrap()[0];
-        let parts = case.1.iter().map(|line| line.split(':').next().unwrap());
-        parts.map(str::to_string).collect()
-    }
-
     #[test]
     fn what_is_said() {
-        let cases = text::read::<Draft>(TEXT).unwrap();
+        let cases = text::read::<Said>(TEXT).unwrap();
         let [restarts, refuses] = &cases[..] else {
             panic!("two cases");
         };
@@ -222,28 +136,29 @@ mod tests {
             ("restart 10A", Answer::Restart("10A".to_string())),
         ];
         for (said, answer) in answers {
-            let cases = text::read::<Draft>(&format!("case a\n{said}\n")).unwrap();
+            let cases = text::read::<Said>(&format!("case a\n{said}\n")).unwrap();
             assert_eq!(cases[0].answer, answer);
         }
-        assert!(text::read::<Draft>("case a\naction 3\n").is_err());
-        assert!(text::read::<Draft>("case a\nrestart-program 00\n").is_err());
+        assert!(text::read::<Said>("case a\naction 3\n").is_err());
+        assert!(text::read::<Said>("case a\nrestart-program 00\n").is_err());
     }
 
     #[test]
     fn each_part_is_compared() {
-        assert!(told(restarts).is_empty());
-        let all_kept: Runner = |_| Answer::Restart("5A".to_string());
-        let parts = ["storage", "restart program", "restart arguments"];
-        assert_eq!(told(all_kept), parts);
-        let other_action: Runner = |lent| {
+        assert!(told::<Said>(TEXT, restarts).is_empty());
+        let all_kept: Runner<Said> = |_| Answer::Restart("5A".to_string());
+        let parts = ["storage-after", "restart-program", "restart-arguments"];
+        assert_eq!(told::<Said>(TEXT, all_kept), parts);
+        let other_action: Runner<Said> = |lent| {
             restarts(lent);
             Answer::Restart("5".to_string())
         };
-        assert_eq!(told(other_action), ["answer"]);
-        let report_written: Runner = |lent| {
+        assert_eq!(told::<Said>(TEXT, other_action), ["answer"]);
+        let report_written: Runner<Said> = |lent| {
             lent.report.push(0);
             restarts(lent)
         };
-        assert_eq!(told(report_written), ["an area that is only read"]);
+        let only_read = ["an area that is only read"];
+        assert_eq!(told::<Said>(TEXT, report_written), only_read);
     }
 }

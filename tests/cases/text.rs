@@ -1,32 +1,65 @@
-//! How cases are written; the words are said where a `Draft` is.
+//! How cases are written; the words are those of a `Call`.
 //!
 //! A statement is a word at the start of a line and its values, which may go on in indented lines
 //! below. `#` begins a comment. Bytes are written in hexadecimal with blanks anywhere between
 //! them; `00*16` is sixteen of them. Other numbers are decimal, CCW addresses hexadecimal. `case`
 //! and a name begin a case: what stands above the first is lent in every case of the text.
 
-/// A case of which some is said; at first, what holds where nothing is said.
-pub trait Draft: Clone + Default {
-    type Case;
+use super::{Call, Case};
 
-    /// The words of which each case has one.
-    const ANSWERS: &'static [&'static str];
-    /// The words that may be said again.
-    const REPEATED: &'static [&'static str];
+/// A case of which some is said; by default, of which nothing is.
+#[derive(Clone, Default)]
+struct Draft<C: Call> {
+    lent: C::Lent,
+    said: C,
+    /// What is left of areas, each with its word.
+    left: Vec<(&'static str, Vec<u8>)>,
+}
 
-    fn take(&mut self, statement: &Statement) -> Result<(), String>;
+impl<C: Call> Draft<C> {
+    fn take(&mut self, statement: &Statement) -> Result<(), String> {
+        let word = statement.word;
+        if let Some(area) = C::only_read(&mut self.lent, word) {
+            *area = statement.bytes()?;
+            return Ok(());
+        }
+        for area in C::written(&mut self.lent) {
+            if area.lent == word {
+                *area.bytes = statement.bytes()?;
+                return Ok(());
+            }
+            if area.left == word {
+                self.left.push((area.left, statement.bytes()?));
+                return Ok(());
+            }
+        }
+        self.said.take(&mut self.lent, statement)
+    }
 
-    fn case(self, name: String) -> Self::Case;
+    fn case(self, name: String) -> Case<C> {
+        let mut left = self.lent.clone();
+        for (word, bytes) in self.left {
+            let mut written = C::written(&mut left).into_iter();
+            let area = written.find(|area| area.left == word);
+            *area.expect("the word of an area").bytes = bytes;
+        }
+        Case {
+            name,
+            lent: self.lent,
+            answer: self.said.answer(),
+            left,
+        }
+    }
 }
 
 /// The cases of a text, or what is wrong with it.
-pub fn read<D: Draft>(text: &str) -> Result<Vec<D::Case>, String> {
+pub fn read<C: Call>(text: &str) -> Result<Vec<Case<C>>, String> {
     let statements = statements(text)?;
     let first_case = statements
         .iter()
         .position(|statement| statement.word == "case");
     let (common, own) = statements.split_at(first_case.unwrap_or(statements.len()));
-    let shared = taken(D::default(), common)?;
+    let shared = taken::<C>(Draft::default(), common)?;
     own.chunk_by(|_, next| next.word != "case")
         .map(|of_case| {
             let (case, said) = of_case.split_first().expect("chunks are not empty");
@@ -34,7 +67,7 @@ pub fn read<D: Draft>(text: &str) -> Result<Vec<D::Case>, String> {
             let draft = taken(shared.clone(), said)?;
             let answers = said
                 .iter()
-                .filter(|statement| D::ANSWERS.contains(&statement.word));
+                .filter(|statement| C::ANSWERS.contains(&statement.word));
             if answers.count() != 1 {
                 return Err(format!("{name}: one answer is wanted"));
             }
@@ -43,10 +76,10 @@ pub fn read<D: Draft>(text: &str) -> Result<Vec<D::Case>, String> {
         .collect()
 }
 
-fn taken<D: Draft>(mut draft: D, statements: &[Statement]) -> Result<D, String> {
+fn taken<C: Call>(mut draft: Draft<C>, statements: &[Statement]) -> Result<Draft<C>, String> {
     for (at, statement) in statements.iter().enumerate() {
         let said_before = |before: &Statement| before.word == statement.word;
-        if !D::REPEATED.contains(&statement.word) && statements[..at].iter().any(said_before) {
+        if !C::REPEATED.contains(&statement.word) && statements[..at].iter().any(said_before) {
             return Err(statement.error("said twice"));
         }
         draft.take(statement)?;

@@ -1,8 +1,9 @@
 //! Demand 3, asked of a reading: where its provisos are met, it ends like the faultless run.
 
-use crate::lendings::{GeneratedReading, ENTRY};
+use crate::lendings::GeneratedReading;
 use crate::simulator::extent::Extent;
 use crate::simulator::faults::FaultList;
+use crate::simulator::held::RECOVERY_ENTRY;
 use crate::simulator::pack::TrackAddress;
 use crate::simulator::report::MASK_PCI_FETCH;
 use crate::simulator::run::{End, Outcome};
@@ -73,7 +74,7 @@ impl Faultless {
     pub fn otherwise(&self, left: Left) -> Option<&'static str> {
         let (csw, rest) = left.answer.split_at(8);
         let made = usize::from(u16::from_be_bytes([rest[0], rest[1]]));
-        let named = left.list.chunks(ENTRY).take(made).map(record);
+        let named = left.list.chunks(RECOVERY_ENTRY).take(made).map(record);
         let seek = left.restart_arguments.map(|arguments| &arguments[..6]);
         if !left.ended {
             Some("it does not end")
@@ -112,21 +113,14 @@ fn record(entry: &[u8]) -> (TrackAddress, u8) {
 #[cfg(test)]
 mod tests {
     use super::*;
-    use crate::chains::GeneratedRun;
-    use crate::random::Random;
     use crate::simulator::sample;
 
     fn reading() -> GeneratedReading {
-        let run = GeneratedRun {
-            chain: sample::CHAIN.to_vec(),
-            arguments: sample::ARGUMENTS.to_vec(),
+        GeneratedReading {
             storage: vec![0; 8],
-            image: sample::IMAGE.to_vec(),
-            faults: sample::FAULTS.to_vec(),
             limit: 5,
-            restart: None,
-        };
-        GeneratedReading::of(&mut Random::new(1), run, sample::EXTENT.to_vec())
+            ..sample::reading()
+        }
     }
 
     const ANSWER: [u8; 11] = [0, 0, 0, 0x28, 0x0C, 0, 0, 0, 0, 1, 0];

@@ -7,6 +7,7 @@
 #![allow(dead_code)]
 
 use crate::simulator::areas::RunSizes;
+use crate::simulator::held::{HeldReading, HeldRecovery, HeldRun};
 
 extern "C" {
     fn giruve_check_image(image: *const u8, image_len: usize) -> u8;
@@ -126,10 +127,7 @@ pub struct RestartAreas<'a> {
 /// What a recovery answers where no question refuses it.
 pub const ANSWERED: u8 = 0;
 
-/// Bytes of the area that a recovery answers in: the answer, its action, a CSW.
-pub const RECOVERY_ANSWER: usize = 1 + 1 + 8;
-
-/// The first of them.
+/// The first byte of a recovery's answer.
 pub const ACTION_1: u8 = 1;
 pub const ACTION_2: u8 = 2;
 pub const REPEAT: u8 = 3;
@@ -149,14 +147,7 @@ pub struct RecoveryAreas<'a> {
 /// What a reading answers besides `ENDED` and `LIMIT` where no question refuses it.
 pub const STOPPED: u8 = 11;
 
-/// Bytes of the area that a reading answers in: CSW, number of recoveries, the number that stopped
-/// it.
-pub const READING_ANSWER: usize = 8 + 2 + 1;
-
-/// Bytes of the list for each recovery: action, cylinder, head, R.
-pub const RECOVERY_ENTRY: usize = 1 + 2 + 2 + 1;
-
-/// The first of them.
+/// The first byte of an entry of its list.
 pub const ACTION_5: u8 = 0x05;
 pub const ACTION_5A: u8 = 0x15;
 
@@ -168,26 +159,32 @@ pub struct ReadingAreas<'a> {
     pub list: &'a mut [u8],
 }
 
-// Every call below is given areas that are valid for the lengths beside them and do not overlap;
-// the library asks nothing else of its caller.
+/// Calls a function with areas, each given by its address and its length; a limit and more areas may
+/// stand behind them.
+///
+/// Every call below is given areas that are valid for these lengths and do not overlap; the library
+/// asks nothing else of its caller.
+macro_rules! call {
+    ($function:ident, [$($area:expr),*] $(, $limit:expr, [$($behind:expr),*])?) => {
+        unsafe {
+            $function(
+                $($area.as_mut_ptr(), $area.len(),)*
+                $($limit, $($behind.as_mut_ptr(), $behind.len(),)*)?
+            )
+        }
+    };
+}
 
 pub fn check_image(image: &mut [u8]) -> u8 {
-    unsafe { giruve_check_image(image.as_mut_ptr(), image.len()) }
+    call!(giruve_check_image, [image])
 }
 
 pub fn check_faults(image: &mut [u8], faults: &mut [u8]) -> u8 {
-    unsafe {
-        giruve_check_faults(
-            image.as_mut_ptr(),
-            image.len(),
-            faults.as_mut_ptr(),
-            faults.len(),
-        )
-    }
+    call!(giruve_check_faults, [image, faults])
 }
 
 pub fn check_extent(extent: &mut [u8]) -> u8 {
-    unsafe { giruve_check_extent(extent.as_mut_ptr(), extent.len()) }
+    call!(giruve_check_extent, [extent])
 }
 
 pub fn check_areas(sizes: RunSizes) -> u8 {
@@ -208,93 +205,118 @@ pub fn check_restart_areas(program: usize, arguments: usize) -> u8 {
 }
 
 pub fn run(areas: RunAreas, limit: usize, answer: &mut [u8]) -> u8 {
-    unsafe {
-        giruve_run(
-            areas.chain.as_mut_ptr(),
-            areas.chain.len(),
-            areas.arguments.as_mut_ptr(),
-            areas.arguments.len(),
-            areas.storage.as_mut_ptr(),
-            areas.storage.len(),
-            areas.image.as_mut_ptr(),
-            areas.image.len(),
-            areas.faults.as_mut_ptr(),
-            areas.faults.len(),
-            limit,
-            answer.as_mut_ptr(),
-            answer.len(),
-        )
-    }
+    call!(
+        giruve_run,
+        [
+            areas.chain,
+            areas.arguments,
+            areas.storage,
+            areas.image,
+            areas.faults
+        ],
+        limit,
+        [answer]
+    )
 }
 
-pub fn run_restart(areas: RunAreas, restart: RestartAreas, answer: &mut [u8]) -> u8 {
-    unsafe {
-        giruve_run_restart(
-            areas.chain.as_mut_ptr(),
-            areas.chain.len(),
-            areas.arguments.as_mut_ptr(),
-            areas.arguments.len(),
-            restart.program.as_mut_ptr(),
-            restart.program.len(),
-            restart.arguments.as_mut_ptr(),
-            restart.arguments.len(),
-            areas.storage.as_mut_ptr(),
-            areas.storage.len(),
-            areas.image.as_mut_ptr(),
-            areas.image.len(),
-            areas.faults.as_mut_ptr(),
-            areas.faults.len(),
-            answer.as_mut_ptr(),
-            answer.len(),
-        )
-    }
+pub fn run_restart(run: RunAreas, restart: RestartAreas, answer: &mut [u8]) -> u8 {
+    call!(
+        giruve_run_restart,
+        [
+            run.chain,
+            run.arguments,
+            restart.program,
+            restart.arguments,
+            run.storage,
+            run.image,
+            run.faults,
+            answer
+        ]
+    )
 }
 
 pub fn recover(areas: RecoveryAreas, answer: &mut [u8]) -> u8 {
-    unsafe {
-        giruve_recover(
-            areas.chain.as_mut_ptr(),
-            areas.chain.len(),
-            areas.report.as_mut_ptr(),
-            areas.report.len(),
-            areas.extent.as_mut_ptr(),
-            areas.extent.len(),
-            areas.storage.as_mut_ptr(),
-            areas.storage.len(),
-            areas.restart.program.as_mut_ptr(),
-            areas.restart.program.len(),
-            areas.restart.arguments.as_mut_ptr(),
-            areas.restart.arguments.len(),
-            answer.as_mut_ptr(),
-            answer.len(),
-        )
-    }
+    call!(
+        giruve_recover,
+        [
+            areas.chain,
+            areas.report,
+            areas.extent,
+            areas.storage,
+            areas.restart.program,
+            areas.restart.arguments,
+            answer
+        ]
+    )
 }
 
 pub fn read(areas: ReadingAreas, limit: usize, answer: &mut [u8]) -> u8 {
-    unsafe {
-        giruve_reading(
-            areas.run.chain.as_mut_ptr(),
-            areas.run.chain.len(),
-            areas.run.arguments.as_mut_ptr(),
-            areas.run.arguments.len(),
-            areas.run.storage.as_mut_ptr(),
-            areas.run.storage.len(),
-            areas.run.image.as_mut_ptr(),
-            areas.run.image.len(),
-            areas.run.faults.as_mut_ptr(),
-            areas.run.faults.len(),
-            areas.extent.as_mut_ptr(),
-            areas.extent.len(),
-            limit,
-            areas.restart.program.as_mut_ptr(),
-            areas.restart.program.len(),
-            areas.restart.arguments.as_mut_ptr(),
-            areas.restart.arguments.len(),
-            areas.list.as_mut_ptr(),
-            areas.list.len(),
-            answer.as_mut_ptr(),
-            answer.len(),
-        )
+    let (run, restart) = (areas.run, areas.restart);
+    call!(
+        giruve_reading,
+        [
+            run.chain,
+            run.arguments,
+            run.storage,
+            run.image,
+            run.faults,
+            areas.extent
+        ],
+        limit,
+        [restart.program, restart.arguments, areas.list, answer]
+    )
+}
+
+/// A run of what is held, restarted where a restart is held.
+pub fn run_held(held: &mut HeldRun, answer: &mut [u8]) -> u8 {
+    let areas = RunAreas {
+        chain: &mut held.chain,
+        arguments: &mut held.arguments,
+        storage: &mut held.storage,
+        image: &mut held.image,
+        faults: &mut held.faults,
+    };
+    match &mut held.restart {
+        None => run(areas, held.limit, answer),
+        Some(restart) => {
+            let restart = RestartAreas {
+                program: &mut restart.program,
+                arguments: &mut restart.arguments,
+            };
+            run_restart(areas, restart, answer)
+        }
     }
+}
+
+pub fn recover_held(held: &mut HeldRecovery, answer: &mut [u8]) -> u8 {
+    let areas = RecoveryAreas {
+        chain: &mut held.chain,
+        report: &mut held.report,
+        extent: &mut held.extent,
+        storage: &mut held.storage,
+        restart: RestartAreas {
+            program: &mut held.program,
+            arguments: &mut held.restart_arguments,
+        },
+    };
+    recover(areas, answer)
+}
+
+pub fn read_held(held: &mut HeldReading, list: &mut [u8], answer: &mut [u8]) -> u8 {
+    let areas = ReadingAreas {
+        run: RunAreas {
+            chain: &mut held.chain,
+            arguments: &mut held.arguments,
+            storage: &mut held.storage,
+            image: &mut held.image,
+            faults: &mut held.faults,
+        },
+        extent: &mut held.extent,
+        restart: RestartAreas {
+            program: &mut held.program,
+            arguments: &mut held.restart_arguments,
+        },
+        list,
+    };
+    read(areas, held.limit, answer)
 }

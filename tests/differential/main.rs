@@ -7,8 +7,6 @@
 mod simulator;
 
 mod arena;
-#[path = "../cases/mod.rs"]
-mod cases;
 mod chains;
 mod compare;
 mod damage;

@@ -2,11 +2,11 @@
 
 use crate::chains::COMMANDS;
 use crate::simulator::channel::{
-    Ccw, ProgramCheck, ReadEnd, Stretch, CCW_LENGTH, FLAG_CHAIN_DATA, RESTART_PROGRAM,
+    Ccw, ReadEnd, Stretch, CCW_LENGTH, FLAG_CHAIN_DATA, RESTART_PROGRAM,
 };
 use crate::simulator::drive::{
-    Arriving, Done, NotFoundRule, RejectRule, UnitCheck, NO_SECTOR, READ_COUNT,
-    READ_COUNT_KEY_DATA, READ_DATA, READ_KEY_DATA, SET_FILE_MASK, SET_SECTOR,
+    Arriving, Done, UnitCheck, NO_SECTOR, READ_COUNT, READ_COUNT_KEY_DATA, READ_DATA,
+    READ_KEY_DATA, SET_FILE_MASK, SET_SECTOR,
 };
 use crate::simulator::run::{End, Outcome, Watch};
 use std::collections::BTreeSet;
@@ -67,24 +67,6 @@ pub const ANSWER_AREAS: [usize; 4] = [0, 35, 37, 72];
 
 impl Mark {
     pub fn all() -> Vec<Mark> {
-        let unit_checks = (RejectRule::ALL.iter().copied().map(UnitCheck::Reject))
-            .chain(
-                NotFoundRule::ALL
-                    .iter()
-                    .copied()
-                    .map(UnitCheck::NoRecordFound),
-            )
-            .chain([UnitCheck::FileProtected]);
-        let ends = [
-            End::Chain,
-            End::IncorrectLength,
-            End::UnitException,
-            End::Cut,
-            End::Limit,
-        ];
-        let ends = (ends.into_iter())
-            .chain(ProgramCheck::ALL.iter().copied().map(End::ProgramCheck))
-            .chain(unit_checks.map(End::UnitCheck));
         let statuses = [
             Mark::Status(0x0C, 0x00),
             Mark::Status(0x0C, 0x40),
@@ -103,7 +85,7 @@ impl Mark {
         ];
         let takes_data = [READ_DATA, READ_KEY_DATA, READ_COUNT_KEY_DATA];
         (COMMANDS.into_iter().map(Mark::Done))
-            .chain(ends.map(Mark::Ended))
+            .chain(End::all().into_iter().map(Mark::Ended))
             .chain(statuses)
             .chain(senses)
             .chain(takes_data.map(Mark::NoData))
@@ -318,12 +300,7 @@ mod tests {
         }
         let mut run = GeneratedRun {
             chain,
-            arguments: sample::ARGUMENTS.to_vec(),
-            storage: vec![0; 16],
-            image: sample::IMAGE.to_vec(),
-            faults: sample::FAULTS.to_vec(),
-            limit: 64,
-            restart: None,
+            ..sample::run()
         };
         let mut marks = Marks::default();
         let outcome = run.watched(&mut marks).expect("the sample is not refused");

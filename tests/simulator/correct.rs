@@ -74,10 +74,7 @@ mod tests {
         let report = Report {
             sense,
             csw,
-            first: 0,
-            mask: None,
-            seek_argument: None,
-            tries: 0,
+            ..Report::default()
         };
         let read = CutRead::of(&ccws.concat(), &report, 600).unwrap();
         fates(&read, &report)

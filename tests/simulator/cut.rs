@@ -113,9 +113,7 @@ mod tests {
             sense,
             csw: [0, 0, 0, 0x30, 0x0E, 0, 0, 1],
             first: 8,
-            mask: None,
-            seek_argument: None,
-            tries: 0,
+            ..Report::default()
         }
     }
 
@@ -188,26 +186,16 @@ mod tests {
 
     #[test]
     fn program_checks_of_the_walk() {
-        let mut count_0 = chain();
-        count_0[15] = 0;
-        let mut low_flags = chain();
-        low_flags[0x24] |= 0x01;
-        let mut tic_to_tic = chain();
-        tic_to_tic[0x20] = 0x18;
-        let mut off = chain();
-        off[0x13] = 0x21;
-        let mut past = chain();
-        past[0x12] = 1;
-        let mut first_range = chain();
-        first_range[0x0B] = 20;
-        for (chain, check) in [
-            (count_0, ProgramCheck::CountZero),
-            (low_flags, ProgramCheck::LowFlags),
-            (tic_to_tic, ProgramCheck::TicToTic),
-            (off, ProgramCheck::NotAMultipleOf8),
-            (past, ProgramCheck::PastTheChain),
-            (first_range, ProgramCheck::DataRange),
+        for (at, byte, check) in [
+            (0x0F, 0, ProgramCheck::CountZero),
+            (0x24, 0x91, ProgramCheck::LowFlags),
+            (0x20, 0x18, ProgramCheck::TicToTic),
+            (0x13, 0x21, ProgramCheck::NotAMultipleOf8),
+            (0x12, 1, ProgramCheck::PastTheChain),
+            (0x0B, 20, ProgramCheck::DataRange),
         ] {
+            let mut chain = chain();
+            chain[at] = byte;
             assert_eq!(refused(&chain, |_| ()), Some(Refusal::Walk(check)));
         }
         let range = CutRead::of(&chain(), &report(), 21).err();

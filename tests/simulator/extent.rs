@@ -2,6 +2,9 @@
 
 use super::pack::TrackAddress;
 
+/// From the pack's first track to its last.
+pub const WHOLE_PACK: [u8; 8] = [0, 0, 0, 0, 1, 0x9A, 0, 18];
+
 #[derive(Clone, Copy, Debug, PartialEq, Eq)]
 pub struct Extent {
     pub first: TrackAddress,

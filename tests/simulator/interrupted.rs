@@ -118,12 +118,10 @@ mod tests {
 
     fn report(address: u8) -> Report {
         Report {
-            sense: [0; 24],
             csw: [0, 0, 0, address, 0x0E, 0, 0, 0],
             first: 0xFFFF,
-            mask: None,
             seek_argument: Some([0, 0, 1, 0x9A, 0, 18]),
-            tries: 0,
+            ..Report::default()
         }
     }
 
@@ -195,20 +193,17 @@ mod tests {
     fn next_command_through_a_tic() {
         assert_eq!(next_command(&chain(), 8).map(|next| next.at), Ok(0x18));
         assert_eq!(next_command(&chain(), 0x10).map(|next| next.at), Ok(0x10));
-        let mut tic_to_tic = chain();
-        tic_to_tic[0x18] = 0xF8;
-        let mut off = chain();
-        off[0x0B] = 0x1C;
-        let mut past = chain();
-        past[0x0B] = 0x20;
-        for (chain, at, check) in [
-            (tic_to_tic, 8, ProgramCheck::TicToTic),
-            (off, 8, ProgramCheck::NotAMultipleOf8),
-            (past, 8, ProgramCheck::PastTheChain),
-            (chain(), 0x20, ProgramCheck::PastTheChain),
+        for (at, byte, check) in [
+            (0x18, 0xF8, ProgramCheck::TicToTic),
+            (0x0B, 0x1C, ProgramCheck::NotAMultipleOf8),
+            (0x0B, 0x20, ProgramCheck::PastTheChain),
         ] {
-            assert_eq!(next_command(&chain, at), Err(Refusal::Next(check)));
+            let mut chain = chain();
+            chain[at] = byte;
+            assert_eq!(next_command(&chain, 8), Err(Refusal::Next(check)));
         }
+        let past = Refusal::Next(ProgramCheck::PastTheChain);
+        assert_eq!(next_command(&chain(), 0x20), Err(past));
     }
 
     #[test]

@@ -54,16 +54,30 @@ pub fn image_of(size: usize, tracks: TracksOf) -> Vec<u8> {
     let mut image = Vec::with_capacity(size);
     let mut place = 0;
     while image.len() + each + HOME_ADDRESS_FIELD + RECORD_HEAD + R0_DATA <= size {
-        let track = track_at(place);
-        put_home_address(&mut image, track);
-        put_data(&mut image, track, 0, R0_DATA);
-        for number in 1..=tracks.records {
-            put_data(&mut image, track, number, tracks.data_length);
-        }
+        put_track(&mut image, track_at(place), tracks);
         place += 1;
     }
     fill(&mut image, size, track_at(place));
     image
+}
+
+/// Track 000/00 with R0 and so many records of one length.
+pub fn track_of(records: u8, data_length: usize) -> Vec<u8> {
+    let tracks = TracksOf {
+        records,
+        data_length,
+    };
+    let mut image = Vec::new();
+    put_track(&mut image, track_at(0), tracks);
+    image
+}
+
+pub fn put_track(image: &mut Vec<u8>, track: TrackAddress, tracks: TracksOf) {
+    put_home_address(image, track);
+    put_data(image, track, 0, R0_DATA);
+    for number in 1..=tracks.records {
+        put_data(image, track, number, tracks.data_length);
+    }
 }
 
 fn put_data(image: &mut Vec<u8>, track: TrackAddress, number: u8, data_length: usize) {

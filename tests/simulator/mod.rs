@@ -29,6 +29,7 @@ pub mod encode;
 pub mod extent;
 pub mod faults;
 pub mod fields;
+pub mod held;
 pub mod interrupted;
 pub mod large;
 pub mod pack;
@@ -50,7 +51,7 @@ use pack::{ImageRule, Pack};
 use report::ReportRule;
 use table::Action;
 
-/// The last cylinder of the pack. What depends on it takes it as an argument.
+/// The last cylinder of the pack. What depends on it takes it as an argument, but for `held`.
 pub const LAST_CYLINDER: u16 = 410;
 
 /// A question answered no, and the rule of it that was broken.

@@ -15,7 +15,8 @@ pub const TRIES: u8 = 0x15;
 /// Bit 7: PCI fetch mode.
 pub const MASK_PCI_FETCH: u8 = 0x01;
 
-#[derive(Clone, Debug, PartialEq, Eq)]
+/// By default of zeros, and without what there may be none of.
+#[derive(Clone, Debug, Default, PartialEq, Eq)]
 pub struct Report {
     pub sense: Sense,
     pub csw: [u8; 8],
@@ -50,8 +51,7 @@ impl Report {
             csw: outcome.csw,
             first,
             mask: outcome.mask,
-            seek_argument: None,
-            tries: 0,
+            ..Report::default()
         })
     }
 

@@ -6,7 +6,8 @@ use super::channel::{
     CHANNEL_INCORRECT_LENGTH, FLAG_CHAIN_COMMAND, FLAG_CHAIN_DATA, UNIT_CHECK, UNIT_EXCEPTION,
 };
 use super::drive::{
-    data_check_sense, Arriving, Done, Drive, Operand, Sense, UnitCheck, NO_OPERATION,
+    data_check_sense, Arriving, Done, Drive, NotFoundRule, Operand, RejectRule, Sense, UnitCheck,
+    NO_OPERATION,
 };
 use super::pack::TrackAddress;
 use super::{check_faults, Refusal};
@@ -56,6 +57,30 @@ pub enum End {
     /// A faulted data area, with incorrect length or without.
     Cut,
     Limit,
+}
+
+impl End {
+    pub fn all() -> Vec<End> {
+        let unit_checks = (RejectRule::ALL.iter().copied().map(UnitCheck::Reject))
+            .chain(
+                NotFoundRule::ALL
+                    .iter()
+                    .copied()
+                    .map(UnitCheck::NoRecordFound),
+            )
+            .chain([UnitCheck::FileProtected]);
+        let alone = [
+            End::Chain,
+            End::IncorrectLength,
+            End::UnitException,
+            End::Cut,
+            End::Limit,
+        ];
+        (alone.into_iter())
+            .chain(ProgramCheck::ALL.iter().copied().map(End::ProgramCheck))
+            .chain(unit_checks.map(End::UnitCheck))
+            .collect()
+    }
 }
 
 /// A data area that a 06, 0E or 1E took.

@@ -1,6 +1,8 @@
 //! Document 01's sample: a chain that reads two records, one track with R0, R1 and R2, one fault,
 //! an extent of that track only.
 
+use super::held::{HeldReading, HeldRun};
+
 pub const CHAIN: [u8; 40] = [
     0x07, 0x00, 0x00, 0x00, 0x40, 0x00, 0x00, 0x06, // seek
     0x31, 0x00, 0x00, 0x06, 0x40, 0x00, 0x00, 0x05, // search ID equal
@@ -30,3 +32,21 @@ pub const FAULTS: [u8; 13] = [
 ];
 
 pub const EXTENT: [u8; 8] = [0x00, 0x00, 0x00, 0x01, 0x00, 0x00, 0x00, 0x01];
+
+/// Its run, with storage of 16 bytes.
+pub fn run() -> HeldRun {
+    HeldRun {
+        chain: CHAIN.to_vec(),
+        arguments: ARGUMENTS.to_vec(),
+        storage: vec![0; 16],
+        image: IMAGE.to_vec(),
+        faults: FAULTS.to_vec(),
+        limit: 64,
+        restart: None,
+    }
+}
+
+/// Its reading, with the same.
+pub fn reading() -> HeldReading {
+    HeldReading::of_run(run(), EXTENT.to_vec())
+}

@@ -9,11 +9,8 @@ mod restart;
 mod scatter;
 pub mod steps;
 
-pub use crate::cases::{Lent as GeneratedRun, Restart as GeneratedRestart};
 use crate::random::Random;
-use crate::simulator::channel::Restart;
-use crate::simulator::run::{run_restarted_watched, run_watched, Lent, Outcome, Watch};
-use crate::simulator::{Refusal, LAST_CYLINDER};
+pub use crate::simulator::held::{HeldRestart as GeneratedRestart, HeldRun as GeneratedRun};
 pub use change::{changed, changed_ccw, refused};
 pub use cut::{cut, cut_again, cut_long};
 use ground::Ground;
@@ -30,31 +27,6 @@ impl GeneratedRun {
             faults: ground.faults,
             limit: limit(random),
             restart: None,
-        }
-    }
-
-    /// What the simulator says of it; storage is left as the run leaves it.
-    pub fn simulated(&mut self) -> Result<Outcome, Refusal> {
-        self.watched(&mut ())
-    }
-
-    /// The same, and `watch` is told of the run.
-    pub fn watched(&mut self, watch: &mut impl Watch) -> Result<Outcome, Refusal> {
-        let lent = Lent {
-            chain: &self.chain,
-            arguments: &self.arguments,
-            image: &self.image,
-            faults: &self.faults,
-        };
-        match &self.restart {
-            None => run_watched(lent, &mut self.storage, self.limit, LAST_CYLINDER, watch),
-            Some(restart) => {
-                let restart = Restart {
-                    program: &restart.program,
-                    arguments: &restart.arguments,
-                };
-                run_restarted_watched(lent, restart, &mut self.storage, LAST_CYLINDER, watch)
-            }
         }
     }
 }
@@ -105,9 +77,9 @@ pub fn generated(random: &mut Random, turn: usize) -> (&'static str, GeneratedRu
 #[cfg(test)]
 mod tests {
     use super::*;
-    use crate::simulator::channel::{ProgramCheck, CHANNEL_INCORRECT_LENGTH};
-    use crate::simulator::drive::{NotFoundRule, RejectRule, UnitCheck};
+    use crate::simulator::channel::CHANNEL_INCORRECT_LENGTH;
     use crate::simulator::run::End;
+    use crate::simulator::Refusal;
     use std::collections::BTreeSet;
 
     const TURNS: usize = 8_000;
@@ -133,20 +105,8 @@ mod tests {
                 seen.insert((outcome.end, incorrect_length, run.restart.is_some()));
             }
         }
-        let unit_checks = RejectRule::ALL
-            .iter()
-            .map(|&rule| UnitCheck::Reject(rule))
-            .chain(
-                NotFoundRule::ALL
-                    .iter()
-                    .map(|&rule| UnitCheck::NoRecordFound(rule)),
-            )
-            .chain([UnitCheck::FileProtected]);
-        let alone = ProgramCheck::ALL
-            .iter()
-            .map(|&check| End::ProgramCheck(check))
-            .chain(unit_checks.map(End::UnitCheck))
-            .chain([End::Chain, End::UnitException, End::Cut, End::Limit])
+        let alone = (End::all().into_iter())
+            .filter(|&end| end != End::IncorrectLength)
             .map(|end| (end, false));
         let with_incorrect_length = [End::IncorrectLength, End::UnitException, End::Cut];
         for (end, incorrect_length) in alone.chain(with_incorrect_length.map(|end| (end, true))) {

@@ -93,13 +93,8 @@ mod tests {
     /// The sample's first run with some bytes of its chain set, and its restart.
     fn restarted(changes: &[(usize, u8)]) -> Option<GeneratedRestart> {
         let mut run = GeneratedRun {
-            chain: sample::CHAIN.to_vec(),
-            arguments: sample::ARGUMENTS.to_vec(),
-            storage: vec![0; 8],
-            image: sample::IMAGE.to_vec(),
-            faults: sample::FAULTS.to_vec(),
             limit: 4_096,
-            restart: None,
+            ..sample::run()
         };
         for &(at, byte) in changes {
             run.chain[at] = byte;

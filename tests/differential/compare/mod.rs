@@ -193,23 +193,57 @@ fn describe(
     text
 }
 
-/// The areas that simulator and library left otherwise than each other, a line for each.
-fn differences<const AREAS: usize>(
-    names: &[&str; AREAS],
-    by_simulator: &Arena<AREAS>,
-    by_library: &Arena<AREAS>,
-) -> String {
-    let mut text = String::new();
-    let areas = by_simulator.areas().into_iter().zip(by_library.areas());
-    for (name, (simulator, library)) in names.iter().zip(areas) {
-        if simulator != library {
-            let [simulator, library] = [simulator, library].map(Hexadecimal);
-            text += &format!("\n  {name} left by the simulator {simulator}");
-            text += &format!("\n  {name} left by the library   {library}");
+/// What a call answered, and all bytes as it left them.
+#[derive(PartialEq)]
+struct Left<const AREAS: usize> {
+    number: u8,
+    arena: Arena<AREAS>,
+}
+
+/// The same areas, lent to simulator and library.
+struct Sides<const AREAS: usize> {
+    names: &'static [&'static str; AREAS],
+    lent: Arena<AREAS>,
+    limit: Option<usize>,
+    by_simulator: Left<AREAS>,
+    by_library: Left<AREAS>,
+}
+
+impl<const AREAS: usize> Sides<AREAS> {
+    /// Whether answer, all areas and the bytes around them are the same.
+    fn agree(&self) -> bool {
+        self.by_simulator == self.by_library
+    }
+
+    /// What is told of them, and what is wrong after so many inputs.
+    fn told(&self, call: Call, kind: &str, what: &str, before: u64) -> Disagreement {
+        let mut text = format!("{}, {kind}: {what} after {before} inputs\n", call.name);
+        for (name, area) in self.names.iter().zip(self.lent.areas()) {
+            text += &format!("  {name} {}\n", Hexadecimal(area));
         }
+        if let Some(limit) = self.limit {
+            text += &format!("  limit {limit}\n");
+        }
+        text += &format!("  simulator {}\n", self.by_simulator.number);
+        text += &format!("  library   {}", self.by_library.number);
+        Disagreement(text + &self.differences())
     }
-    if text.is_empty() && by_simulator != by_library {
-        text += "\n  the call changed bytes outside the areas";
+
+    /// The areas that simulator and library left otherwise than each other, a line for each.
+    fn differences(&self) -> String {
+        let mut text = String::new();
+        let [by_simulator, by_library] = [&self.by_simulator.arena, &self.by_library.arena];
+        let areas = by_simulator.areas().into_iter().zip(by_library.areas());
+        for (name, (simulator, library)) in self.names.iter().zip(areas) {
+            if simulator != library {
+                let [simulator, library] = [simulator, library].map(Hexadecimal);
+                text += &format!("\n  {name} left by the simulator {simulator}");
+                text += &format!("\n  {name} left by the library   {library}");
+            }
+        }
+        if text.is_empty() && by_simulator != by_library {
+            text += "\n  the call changed bytes outside the areas";
+        }
+        text
     }
-    text
 }

@@ -1,14 +1,13 @@
 //! One whole reading given to library and simulator, and demand 3 asked of the library.
 
-use super::{differences, Comparison, Disagreement, Hexadecimal};
+use super::{Comparison, Disagreement, Left, Sides};
 use crate::arena::Arena;
 use crate::demand::{self, Faultless};
 use crate::lendings::GeneratedReading;
-use crate::library::{
-    self, ReadingAreas, RestartAreas, RunAreas, ACTION_5, ACTION_5A, READING_ANSWER, RECOVERY_ENTRY,
-};
+use crate::library::{self, ReadingAreas, RestartAreas, RunAreas, ACTION_5, ACTION_5A};
 use crate::random::Random;
 use crate::reading_marks::{marks_of, ReadingMark};
+use crate::simulator::held::{READING_ANSWER, RECOVERY_ENTRY};
 use crate::simulator::reading::{read, Areas, End, Lent, Reading, Recovery};
 use crate::simulator::recovery::RestartAction;
 use crate::simulator::{encode, run, LAST_CYLINDER};
@@ -29,14 +28,9 @@ const NAMES: [&str; 10] = [
 ];
 
 type ReadingArena = Arena<10>;
+type ReadingLeft = Left<10>;
 
-/// What a call answered, and all bytes as it left them.
-struct Left {
-    number: u8,
-    arena: ReadingArena,
-}
-
-impl Left {
+impl ReadingLeft {
     fn for_demand(&self, lent: &GeneratedReading) -> demand::Left<'_> {
         let [_, _, storage, _, _, _, program, restart_arguments, list, answer] = self.arena.areas();
         let is_built = program != lent.program;
@@ -58,19 +52,19 @@ impl Comparison {
         reading: &GeneratedReading,
     ) -> Result<(), Disagreement> {
         let lent = lend(&mut Random::new(self.tally.compared), reading);
-        let by_library = by_library(reading, lent.clone());
         let (by_simulator, read) = by_simulator(reading, lent.clone());
-        let before = self.tally.compared;
-        let told = |what: String| {
-            let head = format!("{}, {kind}: {what} after {before} inputs\n", READING.name);
-            let numbers = [by_simulator.number, by_library.number];
-            let differences = differences(&NAMES, &by_simulator.arena, &by_library.arena);
-            Disagreement(head + &describe(&lent, reading.limit, numbers) + &differences)
+        let sides = Sides {
+            names: &NAMES,
+            limit: Some(reading.limit),
+            by_library: by_library(reading, lent.clone()),
+            by_simulator,
+            lent,
         };
-        if by_library.number != by_simulator.number || by_library.arena != by_simulator.arena {
-            return Err(told("disagreement".to_string()));
+        let before = self.tally.compared;
+        if !sides.agree() {
+            return Err(sides.told(READING, kind, "disagreement", before));
         }
-        self.tally.count(READING, kind, by_simulator.number);
+        self.tally.count(READING, kind, sides.by_simulator.number);
         let read = match read {
             Ok(read) => read,
             Err(refused) => {
@@ -80,8 +74,9 @@ impl Comparison {
         };
         let faultless = Faultless::of(reading);
         if let Ok(faultless) = &faultless {
-            if let Some(otherwise) = faultless.otherwise(by_library.for_demand(reading)) {
-                return Err(told(format!("demand 3, {otherwise},")));
+            if let Some(otherwise) = faultless.otherwise(sides.by_library.for_demand(reading)) {
+                let what = format!("demand 3, {otherwise},");
+                return Err(sides.told(READING, kind, &what, before));
             }
         }
         let provisos = faultless.map(|_| ());
@@ -111,7 +106,7 @@ fn lend(random: &mut Random, reading: &GeneratedReading) -> ReadingArena {
     Arena::new(random, areas)
 }
 
-fn by_library(reading: &GeneratedReading, mut arena: ReadingArena) -> Left {
+fn by_library(reading: &GeneratedReading, mut arena: ReadingArena) -> ReadingLeft {
     let [chain, arguments, storage, image, faults, extent, program, restart_arguments, list, answer] =
         arena.lent();
     let areas = ReadingAreas {
@@ -137,7 +132,7 @@ fn by_library(reading: &GeneratedReading, mut arena: ReadingArena) -> Left {
 fn by_simulator(
     reading: &GeneratedReading,
     mut arena: ReadingArena,
-) -> (Left, Result<Reading, ReadingMark>) {
+) -> (ReadingLeft, Result<Reading, ReadingMark>) {
     let [chain, arguments, storage, image, faults, extent, program, restart_arguments, list, answer] =
         arena.lent();
     let needed = RECOVERY_ENTRY.saturating_mul(reading.limit);
@@ -194,14 +189,4 @@ fn written(recovery: &Recovery) -> [u8; RECOVERY_ENTRY] {
     };
     let [c0, c1, h0, h1] = encode::track_address(recovery.track());
     [action, c0, c1, h0, h1, recovery.number()]
-}
-
-fn describe(lent: &ReadingArena, limit: usize, [simulator, library]: [u8; 2]) -> String {
-    let mut text = String::new();
-    for (name, area) in NAMES.iter().zip(lent.areas()) {
-        text += &format!("  {name} {}\n", Hexadecimal(area));
-    }
-    text += &format!("  limit {limit}\n");
-    text += &format!("  simulator {simulator}\n");
-    text + &format!("  library   {library}")
 }

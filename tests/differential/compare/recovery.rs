@@ -1,11 +1,12 @@
 //! One recovery given to library and simulator.
 
-use super::{differences, Comparison, Disagreement, Hexadecimal};
+use super::{Comparison, Disagreement, Left, Sides};
 use crate::arena::Arena;
-use crate::library::{self, RecoveryAreas, RestartAreas, RECOVERY_ANSWER};
+use crate::library::{self, RecoveryAreas, RestartAreas};
 use crate::random::Random;
 use crate::recovery_marks::{marks_of, RecoveryMark};
 use crate::reports::GeneratedRecovery;
+use crate::simulator::held::RECOVERY_ANSWER;
 use crate::simulator::recovery::{recover, Answer, Areas, Lent, RestartAction};
 use crate::simulator::LAST_CYLINDER;
 use crate::tally::RECOVER;
@@ -22,12 +23,7 @@ const NAMES: [&str; 7] = [
 ];
 
 type RecoveryArena = Arena<7>;
-
-/// What a call answered, and all bytes as it left them.
-struct Left {
-    number: u8,
-    arena: RecoveryArena,
-}
+type RecoveryLeft = Left<7>;
 
 impl Comparison {
     /// Compares the answer, all areas and the bytes around them.
@@ -37,18 +33,17 @@ impl Comparison {
         recovery: &GeneratedRecovery,
     ) -> Result<(), Disagreement> {
         let lent = lend(&mut Random::new(self.tally.compared), recovery);
-        let by_library = by_library(lent.clone());
-        let by_simulator = self.recovered_by_simulator(recovery, lent.clone());
-        if by_library.number != by_simulator.number || by_library.arena != by_simulator.arena {
-            let before = self.tally.compared;
-            let head = format!(
-                "{}, {kind}: disagreement after {before} inputs\n",
-                RECOVER.name
-            );
-            let text = head + &describe(&lent, &by_simulator, &by_library);
-            return Err(Disagreement(text));
+        let sides = Sides {
+            names: &NAMES,
+            limit: None,
+            by_library: by_library(lent.clone()),
+            by_simulator: self.recovered_by_simulator(recovery, lent.clone()),
+            lent,
+        };
+        if !sides.agree() {
+            return Err(sides.told(RECOVER, kind, "disagreement", self.tally.compared));
         }
-        self.tally.count(RECOVER, kind, by_simulator.number);
+        self.tally.count(RECOVER, kind, sides.by_simulator.number);
         Ok(())
     }
 
@@ -56,7 +51,7 @@ impl Comparison {
         &mut self,
         recovery: &GeneratedRecovery,
         mut arena: RecoveryArena,
-    ) -> Left {
+    ) -> RecoveryLeft {
         let [chain, report, extent, storage, program, restart_arguments, answer] = arena.lent();
         if answer.len() != RECOVERY_ANSWER {
             let mark = RecoveryMark::AnswerArea(answer.len());
@@ -102,7 +97,7 @@ fn lend(random: &mut Random, recovery: &GeneratedRecovery) -> RecoveryArena {
     Arena::new(random, areas)
 }
 
-fn by_library(mut arena: RecoveryArena) -> Left {
+fn by_library(mut arena: RecoveryArena) -> RecoveryLeft {
     let [chain, report, extent, storage, program, arguments, answer] = arena.lent();
     let areas = RecoveryAreas {
         chain,
@@ -141,14 +136,4 @@ fn written_action(action: RestartAction) -> u8 {
         RestartAction::Ten => 0x0A,
         RestartAction::TenA => 0x1A,
     }
-}
-
-fn describe(lent: &RecoveryArena, by_simulator: &Left, by_library: &Left) -> String {
-    let mut text = String::new();
-    for (name, area) in NAMES.iter().zip(lent.areas()) {
-        text += &format!("  {name} {}\n", Hexadecimal(area));
-    }
-    text += &format!("  simulator {}\n", by_simulator.number);
-    text += &format!("  library   {}", by_library.number);
-    text + &differences(&NAMES, &by_simulator.arena, &by_library.arena)
 }

@@ -1,13 +1,13 @@
 //! One run given to library and simulator.
 
-use super::{differences, Comparison, Disagreement, Hexadecimal};
+use super::{Comparison, Disagreement, Left, Sides};
 use crate::arena::Arena;
 use crate::chains::{GeneratedRestart, GeneratedRun};
 use crate::library::{self, RestartAreas, RunAreas, ANSWER, ENDED, LIMIT};
 use crate::marks::{Mark, Marks};
 use crate::random::Random;
 use crate::simulator::run::{End, Outcome};
-use crate::tally::{Call, RUN, RUN_RESTART};
+use crate::tally::{RUN, RUN_RESTART};
 
 /// The areas of a run, in the order in which they are held here.
 const NAMES: [&str; 8] = [
@@ -22,12 +22,7 @@ const NAMES: [&str; 8] = [
 ];
 
 type RunArena = Arena<8>;
-
-/// What a call answered, and all bytes as it left them.
-struct Left {
-    number: u8,
-    arena: RunArena,
-}
+type RunLeft = Left<8>;
 
 impl Comparison {
     /// Compares the answer, all areas and the bytes around them.
@@ -47,19 +42,18 @@ impl Comparison {
             Some(_) => RUN_RESTART,
         };
         let lent = lend(&mut Random::new(self.tally.compared), &run, answer_length);
-        let by_library = by_library(&run, lent.clone());
         let mut marks = Marks::default();
-        let by_simulator = self.by_simulator(&mut run, lent.clone(), &mut marks);
-        if by_library.number != by_simulator.number || by_library.arena != by_simulator.arena {
-            let before = self.tally.compared;
-            let head = format!(
-                "{}, {kind}: disagreement after {before} inputs\n",
-                call.name
-            );
-            let text = head + &describe(call, &lent, run.limit, &by_simulator, &by_library);
-            return Err(Disagreement(text));
+        let sides = Sides {
+            names: &NAMES,
+            limit: (call == RUN).then_some(run.limit),
+            by_library: by_library(&run, lent.clone()),
+            by_simulator: self.by_simulator(&mut run, lent.clone(), &mut marks),
+            lent,
+        };
+        if !sides.agree() {
+            return Err(sides.told(call, kind, "disagreement", self.tally.compared));
         }
-        self.tally.count(call, kind, by_simulator.number);
+        self.tally.count(call, kind, sides.by_simulator.number);
         self.tally.count_marks(call, marks);
         Ok(())
     }
@@ -69,7 +63,7 @@ impl Comparison {
         run: &mut GeneratedRun,
         mut arena: RunArena,
         marks: &mut Marks,
-    ) -> Left {
+    ) -> RunLeft {
         let [.., storage, _, _, answer] = arena.lent();
         if answer.len() != ANSWER {
             marks.see(Mark::AnswerArea(answer.len()));
@@ -113,7 +107,7 @@ fn lend(random: &mut Random, run: &GeneratedRun, answer_length: usize) -> RunAre
     Arena::new(random, areas)
 }
 
-fn by_library(run: &GeneratedRun, mut arena: RunArena) -> Left {
+fn by_library(run: &GeneratedRun, mut arena: RunArena) -> RunLeft {
     let [chain, arguments, program, restart_arguments, storage, image, faults, answer] =
         arena.lent();
     let areas = RunAreas {
@@ -146,23 +140,4 @@ fn written(outcome: &Outcome) -> [u8; ANSWER] {
     answer[33] = outcome.mask.unwrap_or(0);
     answer[34..].copy_from_slice(&cut.to_be_bytes());
     answer
-}
-
-fn describe(
-    call: Call,
-    lent: &RunArena,
-    limit: usize,
-    by_simulator: &Left,
-    by_library: &Left,
-) -> String {
-    let mut text = String::new();
-    for (name, area) in NAMES.iter().zip(lent.areas()) {
-        text += &format!("  {name} {}\n", Hexadecimal(area));
-    }
-    if call == RUN {
-        text += &format!("  limit {limit}\n");
-    }
-    text += &format!("  simulator {}\n", by_simulator.number);
-    text += &format!("  library   {}", by_library.number);
-    text + &differences(&NAMES, &by_simulator.arena, &by_library.arena)
 }

@@ -1,10 +1,12 @@
 //! The named kinds of damage. Some of them leave what is damaged well formed, at an edge.
 
+mod areas;
 mod extent;
 mod faults;
 mod image;
 mod report;
 
+pub use areas::{damage_extent, resize_extent, resize_program, resize_restart_arguments};
 pub use extent::damaged_extent;
 pub use faults::damaged_faults;
 pub use image::damaged_image;

@@ -1,10 +1,11 @@
 //! Areas and limits that question 1, 2, 3 or 5 answers no to, most of the time.
 
-use super::{cut_twice, GeneratedReading, ENTRY};
+use super::{cut_twice, GeneratedReading};
 use crate::chains;
-use crate::damage::{damaged_extent, damaged_faults, damaged_image};
+use crate::damage::{self, damaged_faults, damaged_image};
 use crate::generate::{self, decoded, written};
 use crate::random::Random;
+use crate::simulator::held::RECOVERY_ENTRY;
 
 /// Lengths of areas to answer in, all wrong.
 pub const ANSWER_AREAS: [usize; 4] = [0, 10, 12, 36];
@@ -39,12 +40,10 @@ const AREAS: [ToAreas; 11] = [
         reading.faults = damaged_faults(random, turn, &draft, &pack).1;
     }),
     ("extent damaged", |random, reading| {
-        let turn = random.below(16);
-        reading.extent = damaged_extent(random, turn, &reading.extent).1;
+        damage::damage_extent(random, &mut reading.extent);
     }),
     ("extent damaged otherwise", |random, reading| {
-        let turn = random.below(16);
-        reading.extent = damaged_extent(random, turn, &reading.extent).1;
+        damage::damage_extent(random, &mut reading.extent);
     }),
     ("extent and fault list damaged", |random, reading| {
         reading.extent.rotate_left(4);
@@ -55,17 +54,16 @@ const AREAS: [ToAreas; 11] = [
         reading.image.push(random.byte());
     }),
     ("extent's length", |random, reading| {
-        reading.extent.resize(random.pick(&[0, 4, 7, 9, 16]), 0);
+        damage::resize_extent(random, &mut reading.extent);
     }),
     ("restart program's length", |random, reading| {
-        reading.program.resize(random.pick(&[0, 16, 63, 65, 72]), 0);
+        damage::resize_program(random, &mut reading.program);
     }),
     ("restart arguments' length", |random, reading| {
-        let length = random.pick(&[0, 8, 15, 17, 64]);
-        reading.restart_arguments.resize(length, 0);
+        damage::resize_restart_arguments(random, &mut reading.restart_arguments);
     }),
     ("list's length", |random, reading| {
-        let must = ENTRY * reading.limit;
+        let must = RECOVERY_ENTRY * reading.limit;
         reading.list_length = must - random.pick(&LIST_SHORT_BY);
     }),
     ("answer's length", |random, reading| {

@@ -3,59 +3,29 @@
 
 mod areas;
 
-pub use crate::cases::reading::Lent as GeneratedReading;
+pub use crate::simulator::held::HeldReading as GeneratedReading;
 pub use areas::{ANSWER_AREAS, LIST_SHORT_BY};
 
 use crate::chains::{self, steps, GeneratedRun};
 use crate::generate::{self, decoded, written};
 use crate::random::Random;
 use crate::simulator::faults::FaultList;
+use crate::simulator::held::RECOVERY_ENTRY;
 use crate::simulator::large::place_of;
 use crate::simulator::pack::TrackAddress;
-use crate::simulator::reading::{self, read, Areas, Reading};
 use crate::simulator::run::{self, Outcome};
 use crate::simulator::{Refusal, LAST_CYLINDER};
 
-/// Bytes of the list for each recovery, and of the area to answer in.
-pub const ENTRY: usize = 6;
-pub const ANSWER: usize = 11;
-
 impl GeneratedReading {
-    /// With restart areas and a list as they must be.
+    /// With any bytes in restart areas, and a list as it must be or longer.
     pub fn of(random: &mut Random, run: GeneratedRun, extent: Vec<u8>) -> GeneratedReading {
         let more = random.pick(&[0, 0, 0, 1, 5, 6, 100]);
         GeneratedReading {
-            chain: run.chain,
-            arguments: run.arguments,
-            storage: run.storage,
-            image: run.image,
-            faults: run.faults,
-            extent,
-            limit: run.limit,
             program: random.bytes(64),
             restart_arguments: random.bytes(16),
-            list_length: ENTRY * run.limit + more,
-            answer_length: ANSWER,
+            list_length: RECOVERY_ENTRY * run.limit + more,
+            ..GeneratedReading::of_run(run, extent)
         }
-    }
-
-    /// What the simulator says of it; the areas are left as the reading leaves them.
-    pub fn simulated(&mut self) -> Result<Reading, Refusal> {
-        let lent = reading::Lent {
-            run: run::Lent {
-                chain: &self.chain,
-                arguments: &self.arguments,
-                image: &self.image,
-                faults: &self.faults,
-            },
-            extent: &self.extent,
-        };
-        let areas = Areas {
-            storage: &mut self.storage,
-            program: &mut self.program,
-            restart_arguments: &mut self.restart_arguments,
-        };
-        read(lent, areas, self.limit, LAST_CYLINDER)
     }
 
     /// The same chain, arguments, image and limit with no faults, over this storage.
@@ -73,19 +43,6 @@ impl GeneratedReading {
     fn made(&self) -> usize {
         let reading = self.clone().simulated();
         reading.expect("a plan is not refused").recoveries.len()
-    }
-
-    /// What its runs are lent.
-    fn into_run(self) -> GeneratedRun {
-        GeneratedRun {
-            chain: self.chain,
-            arguments: self.arguments,
-            storage: self.storage,
-            image: self.image,
-            faults: self.faults,
-            limit: self.limit,
-            restart: None,
-        }
     }
 }
 
@@ -139,7 +96,7 @@ fn limit_at_recoveries(random: &mut Random) -> GeneratedReading {
     let made = reading.made();
     let limit = random.pick(&[made - 1, made, made, made + 1]);
     reading.limit = limit;
-    reading.list_length = ENTRY * limit;
+    reading.list_length = RECOVERY_ENTRY * limit;
     reading
 }
 
@@ -175,7 +132,7 @@ mod tests {
     use super::*;
     use crate::simulator::check_extent;
     use crate::simulator::large::track_at;
-    use crate::simulator::reading::End;
+    use crate::simulator::reading::{End, Reading};
     use std::collections::BTreeSet;
 
     const TURNS: usize = 960;

@@ -4,12 +4,10 @@ mod seen;
 
 use crate::demand::Proviso;
 use crate::lendings::{ANSWER_AREAS, LIST_SHORT_BY};
-use crate::recovery_marks::{MaskKind, PatternKind};
+use crate::recovery_marks::{MaskKind, PatternKind, NO_NEXT};
 use crate::simulator::areas::Area;
 use crate::simulator::channel::ProgramCheck;
-use crate::simulator::drive::{
-    NotFoundRule, RejectRule, UnitCheck, READ_COUNT_KEY_DATA, READ_DATA, READ_KEY_DATA,
-};
+use crate::simulator::drive::{READ_COUNT_KEY_DATA, READ_DATA, READ_KEY_DATA};
 use crate::simulator::extent::ExtentRule;
 use crate::simulator::faults::FaultRule;
 use crate::simulator::pack::ImageRule;
@@ -132,33 +130,9 @@ impl ReadingMark {
 
 /// Every end that there is, behind as many recoveries as it can be.
 fn ended() -> Vec<ReadingMark> {
-    let unit_checks = (RejectRule::ALL.iter().copied().map(UnitCheck::Reject))
-        .chain(
-            NotFoundRule::ALL
-                .iter()
-                .copied()
-                .map(UnitCheck::NoRecordFound),
-        )
-        .chain([UnitCheck::FileProtected]);
-    let of_runs = [
-        run::End::Chain,
-        run::End::IncorrectLength,
-        run::End::UnitException,
-    ];
-    let of_runs = (of_runs.into_iter())
-        .chain(
-            ProgramCheck::ALL
-                .iter()
-                .copied()
-                .map(run::End::ProgramCheck),
-        )
-        .chain(unit_checks.map(run::End::UnitCheck));
-    let no_next = [
-        ProgramCheck::PastTheChain,
-        ProgramCheck::NotAMultipleOf8,
-        ProgramCheck::TicToTic,
-    ];
-    let no_next = no_next.map(|check| Stop::Refused(Refusal::Next(check)));
+    let of_runs =
+        (run::End::all().into_iter()).filter(|end| ![run::End::Cut, run::End::Limit].contains(end));
+    let no_next = NO_NEXT.map(|check| Stop::Refused(Refusal::Next(check)));
     let ends = (of_runs.map(End::Run))
         .chain([End::Finished, End::CorrectedOnly])
         .chain(LimitOf::ALL.iter().copied().map(End::Limit))

@@ -2,8 +2,9 @@
 
 use super::{Answered, Behind, HowMany, Order, ReadingEvent, ReadingMark};
 use crate::demand::Proviso;
-use crate::lendings::{GeneratedReading, ENTRY};
+use crate::lendings::GeneratedReading;
 use crate::recovery_marks::{kind_of_fate, MaskKind};
+use crate::simulator::held::RECOVERY_ENTRY;
 use crate::simulator::reading::{End, LimitOf, Reading, Recovery};
 use crate::simulator::recovery::{Answer, RestartAction};
 use std::collections::BTreeSet;
@@ -131,7 +132,7 @@ fn events_of(lent: &GeneratedReading, read: &Reading) -> [(ReadingEvent, bool); 
         ),
         (
             ReadingEvent::ListLongerThanItMustBe,
-            lent.list_length > ENTRY * lent.limit,
+            lent.list_length > RECOVERY_ENTRY * lent.limit,
         ),
     ]
 }
@@ -156,7 +157,6 @@ mod tests {
     use super::*;
     use crate::chains::GeneratedRun;
     use crate::demand::Faultless;
-    use crate::random::Random;
     use crate::simulator::encode::ccw;
     use crate::simulator::{run, sample};
 
@@ -169,14 +169,11 @@ mod tests {
         let run = GeneratedRun {
             chain,
             arguments: [&sample::ARGUMENTS[..], &[0xC0]].concat(),
-            storage: vec![0; 16],
-            image: sample::IMAGE.to_vec(),
             faults,
             limit,
-            restart: None,
+            ..sample::run()
         };
-        let mut lent = GeneratedReading::of(&mut Random::new(1), run, sample::EXTENT.to_vec());
-        lent.list_length = ENTRY * limit;
+        let lent = GeneratedReading::of_run(run, sample::EXTENT.to_vec());
         let read = lent.clone().simulated().expect("the sample is not refused");
         let provisos = Faultless::of(&lent).map(|_| ());
         let marks = marks_of(&lent, &read, provisos);

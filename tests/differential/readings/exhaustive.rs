@@ -1,11 +1,11 @@
 //! Small readings of which every one of a kind is tried.
 
 use crate::chains::steps::{every_five, stepped};
-use crate::chains::GeneratedRun;
 use crate::compare::{Comparison, Disagreement};
 use crate::exhaustive::each_byte_at_each_value;
-use crate::lendings::{GeneratedReading, ANSWER, ENTRY};
+use crate::lendings::GeneratedReading;
 use crate::simulator::faults::Fault;
+use crate::simulator::held::RECOVERY_ENTRY;
 use crate::simulator::large::track_at;
 use crate::simulator::{encode, sample};
 
@@ -14,22 +14,6 @@ pub fn compare_all(comparison: &mut Comparison) -> Result<(), Disagreement> {
     each_limit(comparison)?;
     each_length(comparison)?;
     each_five_steps(comparison)
-}
-
-fn of_run(run: GeneratedRun, extent: &[u8]) -> GeneratedReading {
-    GeneratedReading {
-        chain: run.chain,
-        arguments: run.arguments,
-        storage: run.storage,
-        image: run.image,
-        faults: run.faults,
-        extent: extent.to_vec(),
-        limit: run.limit,
-        program: vec![0x5A; 64],
-        restart_arguments: vec![0x5A; 16],
-        list_length: ENTRY * run.limit,
-        answer_length: ANSWER,
-    }
 }
 
 /// Document 01's sample with a fault in R2 besides, so that both reads are cut.
@@ -42,16 +26,11 @@ fn both_faulted() -> GeneratedReading {
         pattern: [0x81, 0x42, 0x24],
     };
     encode::put_fault(&mut faults, second);
-    let run = GeneratedRun {
-        chain: sample::CHAIN.to_vec(),
-        arguments: sample::ARGUMENTS.to_vec(),
+    GeneratedReading {
         storage: vec![0xEE; 16],
-        image: sample::IMAGE.to_vec(),
         faults,
-        limit: 64,
-        restart: None,
-    };
-    of_run(run, &sample::EXTENT)
+        ..sample::reading()
+    }
 }
 
 /// Each byte of each area that is only read at each value.
@@ -80,7 +59,7 @@ fn each_limit(comparison: &mut Comparison) -> Result<(), Disagreement> {
     for limit in [0, 1, 2, 3, 4, 5, 6, 7, 4_096, 4_097, 1 << 32, usize::MAX] {
         let mut reading = both_faulted();
         reading.limit = limit;
-        reading.list_length = ENTRY * limit.min(4_097);
+        reading.list_length = RECOVERY_ENTRY * limit.min(4_097);
         comparison.reading("sample, each limit", &reading)?;
         reading.faults.clear();
         comparison.reading("sample, each limit", &reading)?;
@@ -152,7 +131,7 @@ fn each_five_steps(comparison: &mut Comparison) -> Result<(), Disagreement> {
                 encode::put_fault(&mut run.faults, fault);
             }
             run.limit = 16;
-            comparison.reading(kind, &of_run(run, &[0; 8]))?;
+            comparison.reading(kind, &GeneratedReading::of_run(run, vec![0; 8]))?;
         }
     }
     Ok(())

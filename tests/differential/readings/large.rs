@@ -3,20 +3,18 @@
 
 use crate::compare::{Comparison, Disagreement};
 use crate::generate::decoded;
-use crate::lendings::{GeneratedReading, ANSWER, ENTRY};
+use crate::lendings::GeneratedReading;
 use crate::limits::{faults_of_last_records, MOST_FAULTS};
 use crate::simulator::channel::CCW_LENGTH;
 use crate::simulator::encode::{self, ccw};
-use crate::simulator::large::{image_of, track_at, TracksOf};
+use crate::simulator::extent::WHOLE_PACK;
+use crate::simulator::large::{image_of, track_of, TracksOf};
 use crate::simulator::pack::LONGEST_RECORD;
 use crate::simulator::sample;
 
 const LONGEST_IMAGE: usize = 1_048_576;
 const LONGEST_STORAGE: usize = 65_536;
 const LONGEST_CHAIN: usize = 2_048;
-const MOST_COMMANDS: usize = 4_096;
-
-const WHOLE_PACK: [u8; 8] = [0, 0, 0, 0, 1, 0x9A, 0, 18];
 
 pub fn compare_all(comparison: &mut Comparison) -> Result<(), Disagreement> {
     for how_many in [9, 99, 254, 255, 256] {
@@ -45,29 +43,12 @@ pub fn compare_all(comparison: &mut Comparison) -> Result<(), Disagreement> {
 fn over(image: Vec<u8>, faulted: usize, ccws: &[[u8; CCW_LENGTH]]) -> GeneratedReading {
     GeneratedReading {
         chain: ccws.concat(),
-        arguments: Vec::new(),
         storage: vec![0xEE; LONGEST_STORAGE],
         faults: faults_of_last_records(&decoded(&image), faulted),
         image,
         extent: WHOLE_PACK.to_vec(),
-        limit: MOST_COMMANDS,
-        program: vec![0x5A; 64],
-        restart_arguments: vec![0x5A; 16],
-        list_length: ENTRY * MOST_COMMANDS,
-        answer_length: ANSWER,
+        ..GeneratedReading::default()
     }
-}
-
-/// Track 000/00 with R0 and so many records of one length.
-fn track_of(records: u8, data_length: usize) -> Vec<u8> {
-    let track = track_at(0);
-    let mut image = Vec::new();
-    encode::put_home_address(&mut image, track);
-    encode::put_record(&mut image, track, 0, &[], &[0; 8]);
-    for number in 1..=records {
-        encode::put_record(&mut image, track, number, &[], &vec![number; data_length]);
-    }
-    image
 }
 
 /// So many 06, one behind the other: each is recovered from by 5A, the last is finished.

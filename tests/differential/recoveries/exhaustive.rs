@@ -2,8 +2,9 @@
 
 use crate::compare::{Comparison, Disagreement};
 use crate::exhaustive::each_byte_at_each_value;
-use crate::reports::{GeneratedRecovery, ANSWER};
+use crate::reports::GeneratedRecovery;
 use crate::simulator::encode;
+use crate::simulator::extent::WHOLE_PACK;
 use crate::simulator::large::track_at;
 use crate::simulator::pack::LAST_HEAD;
 use crate::simulator::report::Report;
@@ -28,8 +29,6 @@ pub fn compare_all(comparison: &mut Comparison) -> Result<(), Disagreement> {
     each_command_behind(comparison)?;
     each_place(comparison)
 }
-
-const WHOLE_PACK: [u8; 8] = [0, 0, 0, 0, 1, 0x9A, 0, 18];
 
 /// Of the sample's cut, with a mask and a seek argument besides.
 fn sample_report() -> Report {
@@ -61,9 +60,7 @@ fn recovery(report: &Report, extent: &[u8]) -> GeneratedRecovery {
         report: encode::report(report),
         extent: extent.to_vec(),
         storage: vec![0xEE; 16],
-        program: vec![0x5A; 64],
-        restart_arguments: vec![0x5A; 16],
-        answer_length: ANSWER,
+        ..GeneratedRecovery::default()
     }
 }
 

@@ -1,7 +1,7 @@
 //! Recoveries with areas as long as they may be, and longer.
 
 use crate::compare::{Comparison, Disagreement};
-use crate::reports::{GeneratedRecovery, ANSWER};
+use crate::reports::GeneratedRecovery;
 use crate::simulator::channel::CCW_LENGTH;
 use crate::simulator::cut::LONGEST_READ;
 use crate::simulator::encode;
@@ -47,19 +47,14 @@ fn of(chain: Vec<u8>, csw: [u8; 8], restart: usize, error: usize) -> GeneratedRe
     let report = Report {
         sense,
         csw,
-        first: 0,
-        mask: None,
-        seek_argument: None,
-        tries: 0,
+        ..Report::default()
     };
     GeneratedRecovery {
         chain,
         report: encode::report(&report),
         extent: vec![0; 8],
         storage: vec![0xEE; LONGEST_STORAGE],
-        program: vec![0x5A; 64],
-        restart_arguments: vec![0x5A; 16],
-        answer_length: ANSWER,
+        ..GeneratedRecovery::default()
     }
 }
 

@@ -179,6 +179,13 @@ fn numbers_of(action: Option<Action>) -> Vec<u8> {
     [&[1, 4, 5], own].concat()
 }
 
+/// Why there may be no next CCW.
+pub const NO_NEXT: [ProgramCheck; 3] = [
+    ProgramCheck::PastTheChain,
+    ProgramCheck::NotAMultipleOf8,
+    ProgramCheck::TicToTic,
+];
+
 /// By the rules of every question of a recovery.
 fn refusals() -> Vec<Refusal> {
     let areas = [
@@ -193,11 +200,6 @@ fn refusals() -> Vec<Refusal> {
     let walk = ProgramCheck::ALL
         .iter()
         .filter(|&&check| check != ProgramCheck::TicFirst);
-    let next = [
-        ProgramCheck::PastTheChain,
-        ProgramCheck::NotAMultipleOf8,
-        ProgramCheck::TicToTic,
-    ];
     (areas.into_iter().map(Refusal::Areas))
         .chain(ReportRule::ALL.iter().copied().map(Refusal::Report))
         .chain(ExtentRule::ALL.iter().copied().map(Refusal::Extent))
@@ -205,7 +207,7 @@ fn refusals() -> Vec<Refusal> {
         .chain(unknown.copied().map(Refusal::Action))
         .chain(CutRule::ALL.iter().copied().map(Refusal::Cut))
         .chain(walk.copied().map(Refusal::Walk))
-        .chain(next.map(Refusal::Next))
+        .chain(NO_NEXT.map(Refusal::Next))
         .chain(
             InterruptedRule::ALL
                 .iter()

@@ -189,10 +189,8 @@ fn is_apart(fates: &[Fate; 3]) -> bool {
 #[cfg(test)]
 mod tests {
     use super::*;
-    use crate::reports::ANSWER;
     use crate::simulator::channel::ProgramCheck;
     use crate::simulator::encode::{self, ccw};
-    use crate::simulator::recovery::{recover, Areas, Lent};
     use crate::simulator::report::ReportRule;
     use crate::simulator::sample;
 
@@ -206,35 +204,21 @@ mod tests {
             sense,
             csw: [0, 0, 0, 0x20, 0x0E, 0, 0, 0],
             first: 0x18,
-            mask: None,
-            seek_argument: None,
-            tries: 0,
+            ..Report::default()
         };
         let recovery = GeneratedRecovery {
             chain: sample::CHAIN.to_vec(),
             report: encode::report(&report),
             extent: sample::EXTENT.to_vec(),
             storage: vec![0; 16],
-            program: vec![0; 64],
-            restart_arguments: vec![0; 16],
-            answer_length: ANSWER,
+            ..GeneratedRecovery::default()
         };
         (recovery, report)
     }
 
     fn marks(recovery: &GeneratedRecovery) -> BTreeSet<RecoveryMark> {
         let mut left = recovery.clone();
-        let lent = Lent {
-            chain: &recovery.chain,
-            report: &recovery.report,
-            extent: &recovery.extent,
-        };
-        let areas = Areas {
-            storage: &mut left.storage,
-            program: &mut left.program,
-            restart_arguments: &mut left.restart_arguments,
-        };
-        let recovered = recover(lent, areas, LAST_CYLINDER);
+        let recovered = left.simulated();
         let marks = marks_of(recovery, &recovered, left.storage != recovery.storage);
         assert!(marks.iter().all(|mark| RecoveryMark::all().contains(mark)));
         marks

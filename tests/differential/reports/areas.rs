@@ -2,7 +2,7 @@
 
 use super::row::take_turn;
 use super::{any_planned, GeneratedRecovery};
-use crate::damage::damaged_extent;
+use crate::damage;
 use crate::random::Random;
 
 /// Lengths of areas to answer in, all wrong.
@@ -22,12 +22,10 @@ type ToAreas = (&'static str, fn(&mut Random, &mut GeneratedRecovery));
 
 const AREAS: [ToAreas; 10] = [
     ("extent damaged", |random, recovery| {
-        let turn = random.below(16);
-        recovery.extent = damaged_extent(random, turn, &recovery.extent).1;
+        damage::damage_extent(random, &mut recovery.extent);
     }),
     ("extent damaged otherwise", |random, recovery| {
-        let turn = random.below(16);
-        recovery.extent = damaged_extent(random, turn, &recovery.extent).1;
+        damage::damage_extent(random, &mut recovery.extent);
     }),
     ("extent and report damaged", |random, recovery| {
         recovery.extent.rotate_left(4);
@@ -43,16 +41,13 @@ const AREAS: [ToAreas; 10] = [
         recovery.chain.resize(2_056, 0)
     }),
     ("restart program's length", |random, recovery| {
-        recovery
-            .program
-            .resize(random.pick(&[0, 16, 63, 65, 72]), 0);
+        damage::resize_program(random, &mut recovery.program);
     }),
     ("restart arguments' length", |random, recovery| {
-        let length = random.pick(&[0, 8, 15, 17, 64]);
-        recovery.restart_arguments.resize(length, 0);
+        damage::resize_restart_arguments(random, &mut recovery.restart_arguments);
     }),
     ("extent's length", |random, recovery| {
-        recovery.extent.resize(random.pick(&[0, 4, 7, 9, 16]), 0);
+        damage::resize_extent(random, &mut recovery.extent);
     }),
     ("answer's length", |random, recovery| {
         recovery.answer_length = random.pick(&ANSWER_AREAS);

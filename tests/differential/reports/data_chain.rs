@@ -114,8 +114,7 @@ fn reported(
         csw: ended(chain, first, restart, storage),
         first,
         mask: any_mask(random),
-        seek_argument: None,
-        tries: 0,
+        ..Report::default()
     }
 }
 

@@ -8,20 +8,18 @@ mod data_chain;
 mod interrupted;
 mod row;
 
-pub use crate::cases::recovery::Lent as GeneratedRecovery;
+pub use crate::simulator::held::HeldRecovery as GeneratedRecovery;
 pub use areas::ANSWER_AREAS;
 
 use crate::chains;
 use crate::damage::damaged_report;
 use crate::generate::{self, DraftField};
 use crate::random::Random;
+use crate::simulator::held::RECOVERY_ANSWER;
 use crate::simulator::large::place_of;
 use crate::simulator::pack::{TrackAddress, LAST_HEAD};
 use crate::simulator::report::{self, Report};
 use crate::simulator::{encode, LAST_CYLINDER};
-
-/// Bytes of the area to answer in.
-pub const ANSWER: usize = 10;
 
 /// A recovery whose report is not written yet.
 pub struct Planned {
@@ -45,7 +43,7 @@ impl Planned {
             storage: self.storage,
             program: random.bytes(64),
             restart_arguments: random.bytes(16),
-            answer_length: ANSWER,
+            answer_length: RECOVERY_ANSWER,
         }
     }
 
@@ -191,31 +189,16 @@ fn extent_around(random: &mut Random, track: TrackAddress) -> Vec<u8> {
 mod tests {
     use super::*;
     use crate::chains::{GeneratedRestart, GeneratedRun};
-    use crate::simulator::recovery::{recover, Answer, Areas, Lent, Recovered};
+    use crate::simulator::extent::WHOLE_PACK;
+    use crate::simulator::recovery::Answer;
     use crate::simulator::run::{End, Outcome};
     use crate::simulator::Refusal;
 
     const TURNS: usize = 3_200;
 
-    const WHOLE_PACK: [u8; 8] = [0, 0, 0, 0, 1, 0x9A, 0, 18];
-
     fn recoveries(seed: u64) -> impl Iterator<Item = (&'static str, GeneratedRecovery)> {
         let mut random = Random::new(seed);
         (0..TURNS).map(move |turn| generated(&mut random, turn))
-    }
-
-    fn recovered(recovery: &mut GeneratedRecovery) -> Result<Recovered, Refusal> {
-        let lent = Lent {
-            chain: &recovery.chain,
-            report: &recovery.report,
-            extent: &recovery.extent,
-        };
-        let areas = Areas {
-            storage: &mut recovery.storage,
-            program: &mut recovery.program,
-            restart_arguments: &mut recovery.restart_arguments,
-        };
-        recover(lent, areas, LAST_CYLINDER)
     }
 
     #[test]
@@ -233,7 +216,7 @@ mod tests {
                 continue;
             }
             cuts += 1;
-            match recovered(&mut recovery) {
+            match recovery.simulated() {
                 Ok(_) => (),
                 // What is behind the read is not the cut's.
                 Err(Refusal::Next(_)) => refused += 1,
@@ -263,7 +246,7 @@ mod tests {
                 extent: WHOLE_PACK.to_vec(),
             };
             let mut recovery = planned.written(&mut random);
-            let Ok(recovered) = recovered(&mut recovery) else {
+            let Ok(recovered) = recovery.simulated() else {
                 continue;
             };
             assert!(!matches!(recovered.answer, Answer::NotBuilt(..)));
@@ -290,7 +273,7 @@ mod tests {
                 extent: WHOLE_PACK.to_vec(),
             };
             let mut recovery = planned.written(&mut Random::new(0));
-            let recovered = recovered(&mut recovery).expect("the cut agrees with the chain");
+            let recovered = recovery.simulated().expect("the cut agrees with the chain");
             run.storage = recovery.storage;
             match recovered.answer {
                 Answer::Finished(csw) => return Some(csw),

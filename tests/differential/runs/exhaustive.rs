@@ -17,13 +17,9 @@ pub fn compare_all(comparison: &mut Comparison) -> Result<(), Disagreement> {
 /// Document 01's sample.
 fn run_of_sample(restart: Option<GeneratedRestart>) -> GeneratedRun {
     GeneratedRun {
-        chain: sample::CHAIN.to_vec(),
-        arguments: sample::ARGUMENTS.to_vec(),
         storage: vec![0xEE; 16],
-        image: sample::IMAGE.to_vec(),
-        faults: sample::FAULTS.to_vec(),
-        limit: 64,
         restart,
+        ..sample::run()
     }
 }
 

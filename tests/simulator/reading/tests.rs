@@ -3,40 +3,20 @@ use crate::simulator::channel::ProgramCheck;
 use crate::simulator::drive::{RejectRule, UnitCheck};
 use crate::simulator::encode::ccw;
 use crate::simulator::faults::Fault;
-use crate::simulator::{answer, sample, LAST_CYLINDER};
+use crate::simulator::held::HeldReading as Call;
+use crate::simulator::{answer, sample};
 
 const TRACK: TrackAddress = TrackAddress {
     cylinder: 0,
     head: 1,
 };
 
-/// What is lent to a reading, and what it left.
-#[derive(Clone)]
-struct Call {
-    chain: Vec<u8>,
-    arguments: Vec<u8>,
-    image: Vec<u8>,
-    faults: Vec<u8>,
-    extent: Vec<u8>,
-    limit: usize,
-    storage: Vec<u8>,
-    program: Vec<u8>,
-    restart_arguments: Vec<u8>,
-}
-
 impl Call {
     /// Document 01's sample.
     fn sample() -> Call {
         Call {
-            chain: sample::CHAIN.to_vec(),
-            arguments: sample::ARGUMENTS.to_vec(),
-            image: sample::IMAGE.to_vec(),
-            faults: sample::FAULTS.to_vec(),
-            extent: sample::EXTENT.to_vec(),
             limit: 4_096,
-            storage: vec![0; 16],
-            program: vec![0xA5; 64],
-            restart_arguments: vec![0xA5; 16],
+            ..sample::reading()
         }
     }
 
@@ -72,27 +52,9 @@ impl Call {
         self
     }
 
-    fn read(&mut self) -> Result<Reading, Refusal> {
-        let lent = Lent {
-            run: run::Lent {
-                chain: &self.chain,
-                arguments: &self.arguments,
-                image: &self.image,
-                faults: &self.faults,
-            },
-            extent: &self.extent,
-        };
-        let areas = Areas {
-            storage: &mut self.storage,
-            program: &mut self.program,
-            restart_arguments: &mut self.restart_arguments,
-        };
-        read(lent, areas, self.limit, LAST_CYLINDER)
-    }
-
     /// A reading that is not refused.
     fn done(&mut self) -> Reading {
-        self.read().expect("the reading is not refused")
+        self.simulated().expect("the reading is not refused")
     }
 
     fn restart_areas_kept(&self) -> bool {
@@ -339,7 +301,7 @@ fn refused_and_nothing_changed() {
     for (change, number) in changes {
         let lent = Call::both_faulted().with(change);
         let mut call = lent.clone();
-        assert_eq!(answer(&call.read()), number);
+        assert_eq!(answer(&call.simulated()), number);
         assert_eq!(call.storage, lent.storage);
         assert_eq!(call.program, lent.program);
         assert_eq!(call.restart_arguments, lent.restart_arguments);
@@ -349,13 +311,13 @@ fn refused_and_nothing_changed() {
 #[test]
 fn lowest_number_answers() {
     let mut call = Call::sample().with(|call| call.extent[3] = 2);
-    assert_eq!(answer(&call.read()), 5);
+    assert_eq!(answer(&call.simulated()), 5);
     call.faults.push(0);
-    assert_eq!(answer(&call.read()), 3);
+    assert_eq!(answer(&call.simulated()), 3);
     call.image.push(0);
-    assert_eq!(answer(&call.read()), 2);
+    assert_eq!(answer(&call.simulated()), 2);
     call.program.push(0);
-    assert_eq!(answer(&call.read()), 1);
+    assert_eq!(answer(&call.simulated()), 1);
 }
 
 /// The report has no seek argument, so nothing but action 5 could do with it.

@@ -2,11 +2,10 @@ use super::*;
 use crate::simulator::channel::ProgramCheck;
 use crate::simulator::cut::CutRule;
 use crate::simulator::encode::{self, ccw};
+use crate::simulator::extent::WHOLE_PACK;
 use crate::simulator::interrupted::InterruptedRule;
 use crate::simulator::report::ReportRule;
 use crate::simulator::{sample, LAST_CYLINDER};
-
-const WHOLE_PACK: [u8; 8] = [0, 0, 0, 0, 1, 0x9A, 0, 18];
 
 /// A call: what is lent, a report to be written, and what was left.
 #[derive(Clone)]
@@ -28,10 +27,7 @@ impl Call {
             report: Report {
                 sense,
                 csw: [0, 0, 0, 8, 0x0E, 0, 0, 0],
-                first: 0,
-                mask: None,
-                seek_argument: None,
-                tries: 0,
+                ..Report::default()
             },
             extent: WHOLE_PACK,
             storage: vec![0; 600],
