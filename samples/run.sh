@@ -1,8 +1,15 @@
 #!/usr/bin/env bash
-# Proves and builds the program `reading`, and runs it on a sample: bash samples/run.sh samples/worked.hex
+# Proves and builds a program and runs it on a sample: `explain` on those of samples/explain, `reading` on the others.
+#   bash samples/run.sh samples/worked.hex
+#   bash samples/run.sh samples/explain/t9.hex
 set -euo pipefail
 sample=$(realpath "$1")
 cd "$(dirname "${BASH_SOURCE[0]}")/.."
+source samples/bytes.sh
 
-rt check reading > /dev/null
-printf "$(sed 's/#.*//' "$sample" | tr -d ' \n' | sed 's/../\\x&/g')" | target/bin/reading
+program=reading
+if [ "$(basename "$(dirname "$sample")")" = explain ]; then
+    program=explain
+fi
+rt check "$program" > /dev/null
+input "$sample" | "target/bin/$program"

@@ -1,6 +1,6 @@
 #!/usr/bin/env bash
-# Proves every crate, builds library and program, and runs every test: the simulator's own; the hand-written cases of runs, of recoveries
-# and of whole readings on simulator and library; library against simulator; the C example; the program on its samples; the edits of
+# Proves every crate, builds library and programs, and runs every test: the simulator's own; the hand-written cases of runs, of recoveries
+# and of whole readings on simulator and library; library against simulator; the C example; the programs on their samples; the edits of
 # the definitions that demand 3 must not survive.
 set -euo pipefail
 cd "$(dirname "${BASH_SOURCE[0]}")/.."
@@ -20,5 +20,6 @@ rustc -O --edition 2021 tests/differential/main.rs "${library[@]}" -o target/dif
 target/differential
 cc -std=c99 -Wall -Wextra -Werror -Iinclude examples/worked.c target/staticlib/libgiruve.a -o target/worked
 cmp <(target/worked) samples/worked.out
-bash tests/program_cases.sh
+bash tests/reading_program.sh
+bash tests/explain_program.sh
 bash tests/theorem.sh

@@ -1,16 +1,33 @@
 -- The code's rows and answers as those of the definitions, and what the choice of an action ensures.
-use Prim.Native.Nat.{ℕ}
+use Prim.Native.Nat.{ℕ, _+_}
 use mathlib.Core.Path.{_≡_}
 use mathlib.Core.Option.{Option, none, some}
-use mathlib.Core.List.{List}
+use mathlib.Core.List.{List, [], _∷_}
 use lib.ListN.{getD}
+use Rattle.base.specs.Choice.{pick}
 use Rattle.recovery.specs.Table as Table
 use Rattle.table.specs.declared.Row.{Row}
+use Rattle.table.specs.declared.Matched.{Matched}
+use Rattle.table.specs.declared.Matched.the-variants.{First, Nothing}
 use Rattle.table.specs.declared.Chosen.{Chosen}
 use Rattle.table.specs.declared.Chosen.the-variants.{Action, NoRow}
 
 abbrev pub rowOf : Row → Table.Row
 rowOf r = Table.row (r .0) (r .1) (r .2) (r .3)
+
+-- the first row that fits, with its number, where the first of the rows has number n
+unfoldable pub firstRow : ℕ → List Table.Row → List ℕ → Option (ℕ × Table.Row)
+firstRow n [] sense = none
+firstRow n (r ∷ rs) sense = pick (Table.fits sense r) (some (n, r)) (firstRow (n + 1) rs sense)
+
+abbrev pub matchedOf : Matched → Option (ℕ × Table.Row)
+matchedOf (First n r) = some (n, rowOf r)
+matchedOf Nothing = none
+
+-- the row of the error table for all sense bytes that begin with these three
+abbrev pub Matches : ℕ → ℕ → ℕ → Matched → Type 0
+Matches s0 s1 s2 m =
+    (sense : List ℕ) → getD sense 0 0 ≡ s0 → getD sense 1 0 ≡ s1 → getD sense 2 0 ≡ s2 → matchedOf m ≡ firstRow 1 Table.rows sense
 
 -- the action's code, or none where no row fits
 abbrev pub chosenOf : Chosen → Option ℕ

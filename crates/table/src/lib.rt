@@ -2,10 +2,16 @@
 ghost use mathlib.Core.List.{[], _∷_};
 ghost use mathlib.Core.Path.{_≡_};
 ghost use Rattle.recovery.specs.Table;
-ghost use Rattle.table.specs.Table.{rowOf, Chooses};
+ghost use Rattle.table.specs.Table.{rowOf, Matches, Chooses};
 
 // The bits of sense 0, 1 and 2 that a row asks for, and its action; 6A is 0x16.
 pub struct Row(pub u8, pub u8, pub u8, pub u8);
+
+// A row with its number, counted from 1.
+pub enum Matched {
+    First(usize, Row),
+    Nothing,
+}
 
 pub enum Chosen {
     Action(u8),
@@ -54,18 +60,28 @@ fn fits(r: Row, s0: u8, s1: u8, s2: u8) -> bool
     covers(s2, r.2)
 }
 
-// The action of the first row whose bits are all on in sense 0, 1 and 2.
-pub fn action_for(s0: u8, s1: u8, s2: u8) -> Chosen
-    ensures { λ r. ⌜ Chooses s0 s1 s2 r ⌝ }
+// The first row whose bits are all on in sense 0, 1 and 2, with its number.
+pub fn row_for(s0: u8, s1: u8, s2: u8) -> Matched
+    ensures { λ r. ⌜ Matches s0 s1 s2 r ⌝ }
 {
     let rows = ROWS;
     let mut i = 0;
     while i < 20 {
         let r = rows[i];
         if fits(r, s0, s1, s2) {
-            return Chosen::Action(r.3);
+            return Matched::First(i + 1, r);
         }
         i += 1;
     }
-    Chosen::NoRow
+    Matched::Nothing
+}
+
+// The action of that row.
+pub fn action_for(s0: u8, s1: u8, s2: u8) -> Chosen
+    ensures { λ r. ⌜ Chooses s0 s1 s2 r ⌝ }
+{
+    match row_for(s0, s1, s2) {
+        Matched::First(_, r) => Chosen::Action(r.3),
+        Matched::Nothing => Chosen::NoRow,
+    }
 }

@@ -1,0 +1,51 @@
+-- Lines of an answer, from the texts that the code puts one behind the other.
+--   actions-short, action-put, csw-put          an action in words; a CSW
+--   restart-put, finished-put                   a restart, a chain that is finished
+--   mended, answered                            the correction of a restart, and the answer, by cases
+use Prim.Native.Nat.{ℕ}
+use mathlib.Core.Path.{_≡_, refl}
+use mathlib.Core.Bool.{true}
+use mathlib.Core.List.{List, [], _∷_, _++_}
+use Rattle.base.specs.Choice.{pick}
+use Rattle.text.specs.Text.{Puts, ascii, number}
+use Rattle.text.proofs.Written.{puts-then}
+use Rattle.words.specs.Words.{item, roomAfter, shortFrom, short}
+use Rattle.channel.specs.declared.Csw.{Csw}
+use Rattle.action.specs.declared.Kind.{Kind}
+use Rattle.action.specs.declared.Recovered.{Recovered}
+use Rattle.listing.specs.Listing.{ccwLines, usedIn}
+use Rattle.mending.specs.Mending.{correctionText}
+use Rattle.account.specs.Account.{actionTexts, actionLine, cswLine, kindIndex, mendedText, restartText, finishedText, answerText}
+
+pub actions-short : short 64 actionTexts ≡ true
+unfolding actionTexts ascii short shortFrom roomAfter pick
+actions-short = refl
+
+pub action-put : {x y₁ y : List ℕ} {at r₁ r : ℕ} (i : ℕ) → Puts x at (item i actionTexts) y₁ r₁ → Puts y₁ r₁ (0x0a ∷ []) y r → Puts x at (actionLine i) y r
+unfolding actionLine ascii
+action-put i a b = puts-then a b
+
+pub csw-put : {x y₁ y₂ y₃ y₄ y₅ y : List ℕ} {at r₁ r₂ r₃ r₄ r₅ r u v : ℕ} (w : Csw) → u ≡ w .unit → v ≡ w .channel
+    → Puts x at (ascii "csw") y₁ r₁ → Puts y₁ r₁ (number 16 6 (w .address)) y₂ r₂ → Puts y₂ r₂ (number 16 2 u) y₃ r₃ → Puts y₃ r₃ (number 16 2 v) y₄ r₄
+    → Puts y₄ r₄ (number 16 4 (w .count)) y₅ r₅ → Puts y₅ r₅ (ascii "\n") y r → Puts x at (cswLine w) y r
+unfolding cswLine
+csw-put w eu ev a b c d e f = rw (← eu, ← ev) (puts-then (puts-then (puts-then (puts-then (puts-then a b) c) d) e) f)
+
+pub restart-put : {x y₁ y₂ y : List ℕ} {at r₁ r₂ r i n : ℕ} (k : Kind) (sense st p : List ℕ) → i ≡ kindIndex k → n ≡ usedIn p
+    → Puts x at (actionLine i) y₁ r₁ → Puts y₁ r₁ (mendedText k sense st) y₂ r₂ → Puts y₂ r₂ (ccwLines (ascii "restart") 0x1000 p n) y r
+    → Puts x at (restartText k sense st p) y r
+unfolding restartText
+restart-put k sense st p ei en a b c = rw (← ei, ← en) (puts-then (puts-then a b) c)
+
+pub finished-put : {x y₁ y₂ y : List ℕ} {at r₁ r₂ r : ℕ} (w : Csw) (sense st : List ℕ)
+    → Puts x at (actionLine 4) y₁ r₁ → Puts y₁ r₁ (correctionText sense st) y₂ r₂ → Puts y₂ r₂ (cswLine w) y r → Puts x at (finishedText w sense st) y r
+unfolding finishedText
+finished-put w sense st a b c = puts-then (puts-then a b) c
+
+-- ---- by cases
+
+pub mended : {x y s : List ℕ} {at r : ℕ} {k j : Kind} (sense st : List ℕ) → k ≡ j → Puts x at s y r → s ≡ mendedText j sense st → Puts x at (mendedText k sense st) y r
+mended sense st e q h = rw (e, ← h) q
+
+pub answered : {x y s : List ℕ} {at r : ℕ} {o a : Recovered} (sense st p : List ℕ) → o ≡ a → Puts x at s y r → s ≡ answerText a sense st p → Puts x at (answerText o sense st p) y r
+answered sense st p e q k = rw (e, ← k) q

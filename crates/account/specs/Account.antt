@@ -1,0 +1,60 @@
+-- Lines of what recovery answers.
+use Prim.Native.Nat.{ℕ}
+use mathlib.Core.List.{List, [], _++_}
+use Rattle.text.specs.Text.{ascii, number}
+use Rattle.words.specs.Words.{item}
+use Rattle.channel.specs.declared.Csw.{Csw}
+use Rattle.action.specs.declared.Kind.{Kind}
+use Rattle.action.specs.declared.Kind.the-variants.{Five, FiveA, Eight, Ten, TenA}
+use Rattle.action.specs.declared.Recovered.{Recovered}
+use Rattle.action.specs.declared.Recovered.the-variants.{Refused, ActionOne, ActionTwo, Repeat, CorrectedOnly, Finished, Restart}
+use Rattle.names.specs.Names.{refusalLine}
+use Rattle.listing.specs.Listing.{ccwLines, usedIn}
+use Rattle.mending.specs.Mending.{correctionText}
+
+-- the answers in words, a slash between each and the next
+unfoldable pub actionTexts : List ℕ
+actionTexts = ascii "action 1: permanent error, tell the operator/action 2: give the condition back to the program, no retry/repeat: run the chain again/action 5: storage is corrected, and no more: PCI fetch mode/action 5: storage is corrected, and the chain is finished/action 5: storage is corrected, go on behind the search/action 5A: storage is corrected, go on behind a read count/action 8: seek the next cylinder, repeat the interrupted CCW/action 10: make the user's seek, go on behind it/action 10A: seek the next track, repeat the interrupted CCW"
+
+unfoldable pub actionLine : ℕ → List ℕ
+actionLine i = item i actionTexts ++ ascii "\n"
+
+-- ending address, unit status, channel status and count left
+unfoldable pub cswLine : Csw → List ℕ
+cswLine w = ascii "csw" ++ number 16 6 (w .address) ++ number 16 2 (w .unit) ++ number 16 2 (w .channel) ++ number 16 4 (w .count) ++ ascii "\n"
+
+-- ---- a restart
+
+unfoldable pub kindIndex : Kind → ℕ
+kindIndex Five = 5
+kindIndex FiveA = 6
+kindIndex Eight = 7
+kindIndex Ten = 8
+kindIndex TenA = 9
+
+-- only action 5 corrects storage
+unfoldable pub mendedText : Kind → (sense storage : List ℕ) → List ℕ
+mendedText Five sense st = correctionText sense st
+mendedText FiveA sense st = correctionText sense st
+mendedText Eight sense st = []
+mendedText Ten sense st = []
+mendedText TenA sense st = []
+
+-- "restart program, 64 bytes at 1000"
+unfoldable pub restartText : Kind → (sense storage program : List ℕ) → List ℕ
+restartText k sense st p = actionLine (kindIndex k) ++ mendedText k sense st ++ ccwLines (ascii "restart") 0x1000 p (usedIn p)
+
+-- "finished with the CSW less unit check"
+unfoldable pub finishedText : Csw → (sense storage : List ℕ) → List ℕ
+finishedText w sense st = actionLine 4 ++ correctionText sense st ++ cswLine w
+
+-- ---- an answer, with storage and the restart program behind it
+
+unfoldable pub answerText : Recovered → (sense storage program : List ℕ) → List ℕ
+answerText (Refused q) sense st p = refusalLine q
+answerText ActionOne sense st p = actionLine 0
+answerText ActionTwo sense st p = actionLine 1
+answerText Repeat sense st p = actionLine 2
+answerText CorrectedOnly sense st p = actionLine 3 ++ correctionText sense st
+answerText (Finished w) sense st p = finishedText w sense st
+answerText (Restart k) sense st p = restartText k sense st p

@@ -1,0 +1,30 @@
+-- `listing::put_ccw` meets its contract. Assumes nothing.
+use Rattle.listing.proofs.Lines.{ccw-put}
+use borrow.Author.Needs.{needs}
+use Rattle.listing.proofs.put_ccw.Statement.{statement}
+use Rattle.listing.proofs.put_ccw.Tie as tie
+
+put-head-requires : tie.Need-put-head-requires
+put-head-requires c κs = search needs
+
+put-command-requires : tie.Need-put-command-requires
+put-command-requires c κs = search needs
+
+put-operands-requires : tie.Need-put-operands-requires
+put-operands-requires c κs = search needs
+
+same-length : tie.Need-same-length
+same-length c = search needs
+
+returns : tie.Need-returns
+returns c =
+    let command = c .before .before .before .before .before .before in
+    let head = command .before .before .before .before in (
+      ccw-put _ _ _ (head .put-head .ensures .0) (command .put-command .ensures .0) (c .before .before .put-operands .ensures .0),
+      search needs,
+    )
+
+pub put-ccw-spec : {M : Type 1} → statement M
+put-ccw-spec =
+    tie.close
+    (tie.spec put-head-requires put-command-requires put-operands-requires same-length returns)

@@ -1,0 +1,38 @@
+-- Lines of CCWs.
+use Prim.Native.Nat.{ℕ, zero, suc, _+_, _*_}
+use mathlib.Core.List.{List, [], _++_}
+use lib.Dec.{eqb}
+use lib.ListN.{getD}
+use Rattle.base.specs.Choice.{pick, opt}
+use Rattle.text.specs.Text.{ascii, number}
+use Rattle.words.specs.Each.{each}
+use Rattle.channel.specs.declared.Ccw.{Ccw}
+use Rattle.channel.specs.Ccw.{fetchIn}
+use Rattle.names.specs.Names.{commandName, flagsText}
+
+-- the area's name, the CCW's address, its command's code
+unfoldable pub headText : List ℕ → ℕ → ℕ → List ℕ
+headText label place command = label ++ number 16 4 place ++ ascii ":" ++ number 16 2 command ++ ascii " "
+
+-- address, count, and the flags that are on
+unfoldable pub operandText : Ccw → List ℕ
+operandText c = ascii ", address" ++ number 16 6 (c .address) ++ ascii ", count" ++ number 16 4 (c .count) ++ flagsText (c .flags) ++ ascii "\n"
+
+unfoldable pub ccwLine : List ℕ → ℕ → Ccw → List ℕ
+ccwLine label place c = headText label place (c .command) ++ commandName c ++ operandText c
+
+-- the line of the CCW with number i of an area that begins at an address, if it has one
+unfoldable pub slotLine : List ℕ → ℕ → List ℕ → ℕ → List ℕ
+slotLine label origin s i = opt (fetchIn s (i * 8)) [] (λ c. ccwLine label (origin + i * 8) c)
+
+-- the lines of the first n
+unfoldable pub ccwLines : List ℕ → ℕ → List ℕ → ℕ → List ℕ
+ccwLines label origin s n = each n 0 (slotLine label origin s)
+
+-- How many CCWs of a restart program are used: "unused bytes 0", and no command of one is 00. At most n behind the first i are looked at.
+unfoldable pub usedFrom : ℕ → List ℕ → ℕ → ℕ
+usedFrom zero p i = i
+usedFrom (suc n) p i = pick (eqb (getD p (i * 8) 0) 0) i (usedFrom n p (i + 1))
+
+unfoldable pub usedIn : List ℕ → ℕ
+usedIn p = usedFrom 8 p 0

@@ -1,0 +1,81 @@
+-- Commands, flags, sense bits, actions and questions in words. Each list of names has a slash between each and the next.
+use Prim.Native.Nat.{ℕ}
+use mathlib.Core.List.{List, [], _++_}
+use lib.Dec.{eqb}
+use Rattle.base.specs.Choice.{pick}
+use Rattle.base.specs.Bits.{bitOn}
+use Rattle.text.specs.Text.{ascii, number}
+use Rattle.words.specs.Words.{item}
+use Rattle.words.specs.Each.{each}
+use Rattle.questions.specs.declared.Question.{Question}
+use Rattle.questions.specs.Number.{numberOf}
+use Rattle.channel.specs.declared.Ccw.{Ccw}
+use Rattle.channel.specs.Ccw.{isTic}
+use Rattle.drive.specs.declared.Read.{Read}
+use Rattle.drive.specs.declared.Command.{Command}
+use Rattle.drive.specs.declared.Command.the-variants.{NoOperation, Seek, SetMask, SetSector, SearchId, ReadHome, ReadRecord, Unlisted}
+use Rattle.drive.specs.Command.{commandOf}
+
+-- ---- the command of a CCW
+
+unfoldable pub commandNames : List ℕ
+commandNames = ascii "transfer in channel/no operation/seek/set file mask/set sector/search ID equal/read home address/unlisted command/read data/read key and data/read count/read count, key and data"
+
+-- a read of a record, by what it moves
+unfoldable pub readIndex : Read → ℕ
+readIndex k = pick (k .counts) (pick (k .datas) 11 10) (pick (k .keys) 9 8)
+
+unfoldable pub kindIndex : Command → ℕ
+kindIndex NoOperation = 1
+kindIndex Seek = 2
+kindIndex SetMask = 3
+kindIndex SetSector = 4
+kindIndex SearchId = 5
+kindIndex ReadHome = 6
+kindIndex Unlisted = 7
+kindIndex (ReadRecord k) = readIndex k
+
+unfoldable pub commandIndex : Ccw → ℕ
+commandIndex c = pick (isTic c) 0 (kindIndex (commandOf (c .command)))
+
+unfoldable pub commandName : Ccw → List ℕ
+commandName c = item (commandIndex c) commandNames
+
+-- ---- its flags
+
+-- "CD 80, CC 40, SLI 20, skip 10, PCI 08 without effect, others 0"
+unfoldable pub flagNames : List ℕ
+flagNames = ascii "CD/CC/SLI/skip/PCI/bit 5/bit 6/bit 7"
+
+-- a flag, if it is on
+unfoldable pub flagText : ℕ → ℕ → List ℕ
+flagText flags k = pick (bitOn k flags) (ascii ", " ++ item k flagNames) []
+
+unfoldable pub flagsText : ℕ → List ℕ
+flagsText flags = each 8 0 (flagText flags)
+
+-- ---- sense bits
+
+-- the 24 bits of sense bytes 0 to 2 (source document 002, "Sense bytes 0-7 summary"); "on" for one that it does not use
+unfoldable pub senseNames : List ℕ
+senseNames = ascii "command reject/intervention required/channel bus out parity/equipment check/data check/overrun/on/on/permanent error/invalid track format/end of cylinder/on/no record found/file protected/write inhibited/operation incomplete/on/correctable/on/environmental data present/on/on/on/on"
+
+unfoldable pub senseName : ℕ → List ℕ
+senseName i = item i senseNames
+
+-- ---- actions of the error table, whose code for 6A is 0x16
+
+unfoldable pub actionNames : List ℕ
+actionNames = ascii "/1/2/3/4/5/6/7/8/9/10/11"
+
+unfoldable pub actionName : ℕ → List ℕ
+actionName k = pick (eqb k 0x16) (ascii "6A") (item k actionNames)
+
+-- ---- questions, by their numbers
+
+unfoldable pub questionTexts : List ℕ
+questionTexts = ascii "/are all areas and limits as they must be?/is the image well formed?/is each fault well formed and its record in the image?/is the report well formed?/is the extent on the pack, first not after last?/does a row of the error table match?/is the action other than 6, 6A, 7, 9, 11?/for action 5: is sense byte 7 = 53?/do report and chain agree?"
+
+-- the number of a refusal, and its question
+unfoldable pub refusalLine : Question → List ℕ
+refusalLine q = ascii "refused" ++ number 10 1 (numberOf q) ++ ascii ": " ++ item (numberOf q) questionTexts ++ ascii "\n"
