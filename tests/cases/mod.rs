@@ -61,20 +61,23 @@ impl Written<'_> {
         }
     }
 
-    fn restart_program(bytes: &mut Vec<u8>) -> Written<'_> {
-        Written {
+    /// Storage and the two restart areas.
+    fn with_restart<'a>(
+        storage: &'a mut Vec<u8>,
+        program: &'a mut Vec<u8>,
+        arguments: &'a mut Vec<u8>,
+    ) -> Vec<Written<'a>> {
+        let program = Written {
             lent: "program-lent",
             left: "restart-program",
-            bytes,
-        }
-    }
-
-    fn restart_arguments(bytes: &mut Vec<u8>) -> Written<'_> {
-        Written {
+            bytes: program,
+        };
+        let arguments = Written {
             lent: "arguments-lent",
             left: "restart-arguments",
-            bytes,
-        }
+            bytes: arguments,
+        };
+        vec![Written::storage(storage), program, arguments]
     }
 }
 

@@ -9,96 +9,41 @@
 use crate::simulator::areas::RunSizes;
 use crate::simulator::held::{HeldReading, HeldRecovery, HeldRun};
 
+/// Declares functions of areas, each given by its address and its length; a limit and more areas may
+/// stand behind them.
+macro_rules! declare {
+    ($($function:ident($($area:ident)* $(; $limit:ident $($behind:ident)*)?);)*) => {
+        extern "C" {
+            $(fn $function(
+                $($area: *mut u8, _: usize,)*
+                $($limit: usize, $($behind: *mut u8, _: usize,)*)?
+            ) -> u8;)*
+        }
+    };
+}
+
+declare! {
+    giruve_check_image(image);
+    giruve_check_faults(image faults);
+    giruve_check_extent(extent);
+    giruve_run(chain arguments storage image faults; limit answer);
+    giruve_run_restart(chain arguments program restart_arguments storage image faults answer);
+    giruve_recover(chain report extent storage program restart_arguments answer);
+    giruve_reading(
+        chain arguments storage image faults extent; limit program restart_arguments list answer
+    );
+}
+
 extern "C" {
-    fn giruve_check_image(image: *const u8, image_len: usize) -> u8;
-    fn giruve_check_faults(
-        image: *const u8,
-        image_len: usize,
-        faults: *const u8,
-        faults_len: usize,
-    ) -> u8;
-    fn giruve_check_extent(extent: *const u8, extent_len: usize) -> u8;
     fn giruve_check_areas(
-        chain_len: usize,
-        arguments_len: usize,
-        storage_len: usize,
-        image_len: usize,
-        faults_len: usize,
+        chain: usize,
+        arguments: usize,
+        storage: usize,
+        image: usize,
+        faults: usize,
         limit: usize,
     ) -> u8;
-    fn giruve_check_restart_areas(program_len: usize, arguments_len: usize) -> u8;
-    fn giruve_run(
-        chain: *const u8,
-        chain_len: usize,
-        arguments: *const u8,
-        arguments_len: usize,
-        storage: *mut u8,
-        storage_len: usize,
-        image: *const u8,
-        image_len: usize,
-        faults: *const u8,
-        faults_len: usize,
-        limit: usize,
-        answer: *mut u8,
-        answer_len: usize,
-    ) -> u8;
-    fn giruve_run_restart(
-        chain: *const u8,
-        chain_len: usize,
-        arguments: *const u8,
-        arguments_len: usize,
-        program: *const u8,
-        program_len: usize,
-        restart_arguments: *const u8,
-        restart_arguments_len: usize,
-        storage: *mut u8,
-        storage_len: usize,
-        image: *const u8,
-        image_len: usize,
-        faults: *const u8,
-        faults_len: usize,
-        answer: *mut u8,
-        answer_len: usize,
-    ) -> u8;
-    fn giruve_recover(
-        chain: *const u8,
-        chain_len: usize,
-        report: *const u8,
-        report_len: usize,
-        extent: *const u8,
-        extent_len: usize,
-        storage: *mut u8,
-        storage_len: usize,
-        program: *mut u8,
-        program_len: usize,
-        restart_arguments: *mut u8,
-        restart_arguments_len: usize,
-        answer: *mut u8,
-        answer_len: usize,
-    ) -> u8;
-    fn giruve_reading(
-        chain: *const u8,
-        chain_len: usize,
-        arguments: *const u8,
-        arguments_len: usize,
-        storage: *mut u8,
-        storage_len: usize,
-        image: *const u8,
-        image_len: usize,
-        faults: *const u8,
-        faults_len: usize,
-        extent: *const u8,
-        extent_len: usize,
-        limit: usize,
-        program: *mut u8,
-        program_len: usize,
-        restart_arguments: *mut u8,
-        restart_arguments_len: usize,
-        list: *mut u8,
-        list_len: usize,
-        answer: *mut u8,
-        answer_len: usize,
-    ) -> u8;
+    fn giruve_check_restart_areas(program: usize, restart_arguments: usize) -> u8;
 }
 
 /// What a run answers where no question refuses it.
