@@ -38,13 +38,10 @@ call-keeps-demand-three g e begins provided b lends r st p a l answers =
     answers ∙ begun g b begins lends ∙ ap (λ (q : Whole). concluded q (b .program) (b .restarts) (b .list)) (like .same-end) in
     let many : length (like .made) ≡ length (faultedAreas g) = sym (length-map recovered (like .made)) ∙ ap length (like .same-areas) in
     record {
+      like = like;
       answer = ap (λ (c : Conclusion). c .answer) is ∙ ap (λ (n : ℕ). Over (record { csw = e .csw; made = n; how = Ended })) many;
       storage = ap (λ (c : Conclusion). c .storage) is;
-      made = like .made;
-      same-areas = like .same-areas;
       list = ap (λ (c : Conclusion). c .list) is;
-      built = like .built;
-      inside = like .inside;
       program = ap (λ (c : Conclusion). c .program) is;
       restarts = ap (λ (c : Conclusion). c .restarts) is;
     }

@@ -3,14 +3,12 @@
 use Prim.Native.Nat.{ℕ, _*_}
 use mathlib.Core.Path.{_≡_}
 use mathlib.Core.Bool.{true}
-use mathlib.Core.List.{List, map}
+use mathlib.Core.List.{List}
 use lib.Dec.{leb}
 use lib.ListN.{length}
 use Rattle.questions.specs.Areas.{restartAreas}
-use Rattle.address.specs.Within.{extentOf}
 use Rattle.drive.specs.Step.{End}
-use Rattle.law.specs.WholeReading.{Entry, Restarted}
-use Rattle.law.specs.Demand.{Lending, Begins, Provided, recovered, faultedAreas, EachInside}
+use Rattle.law.specs.Demand.{Lending, Begins, Provided, faultedAreas, LikeFaultless}
 use Rattle.whole.specs.declared.How.the-variants.{Ended}
 use Rattle.whole.specs.declared.Outcome.{Outcome}
 use Rattle.whole.specs.declared.Outcome.the-variants.{Over}
@@ -35,20 +33,19 @@ Answers g b r st p a l =
 
 -- What demand 3 says of it; the faultless run ends with e.
 pub record Keeps (g : Lending) (e : End) (b : Beside) (r : Outcome) (st p a l : List ℕ) : Type 0 where
+  -- the reading as the definitions have it, with the recoveries that it makes and every restart that it builds: "no restart's own seek lies
+  -- outside the extent"
+  pub like : LikeFaultless g e
   -- it ends, neither as "limit" nor as "stopped", with the faultless run's address, unit and channel status and count left; "the recoveries that
   -- the reading reports number the faulted data areas that this faultless run reads, one for each time"
   pub answer : r ≡ Over (record { csw = e .csw; made = length (faultedAreas g); how = Ended })
   -- storage equals the faultless run's
   pub storage : st ≡ e .storage
   -- the list names these recoveries, in order
-  pub made : List Entry
-  pub same-areas : map recovered made ≡ faultedAreas g
-  pub list : l ≡ listAfter made (b .list)
-  -- "no restart's own seek lies outside the extent"; the last restart remains in its areas
-  pub built : List Restarted
-  pub inside : EachInside (extentOf (g .extent)) built
-  pub program : p ≡ programAfter built (b .program)
-  pub restarts : a ≡ argumentsAfter built (b .restarts)
+  pub list : l ≡ listAfter (like .made) (b .list)
+  -- the last of these restarts remains in its areas
+  pub program : p ≡ programAfter (like .built) (b .program)
+  pub restarts : a ≡ argumentsAfter (like .built) (b .restarts)
 
 abbrev pub CallKeepsDemandThree : Type 0
 CallKeepsDemandThree =
