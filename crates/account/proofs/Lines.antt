@@ -31,11 +31,11 @@ pub csw-put : {x y₁ y₂ y₃ y₄ y₅ y : List ℕ} {at r₁ r₂ r₃ r₄ 
 unfolding cswLine
 csw-put w eu ev a b c d e f = rw (← eu, ← ev) (puts-then (puts-then (puts-then (puts-then (puts-then a b) c) d) e) f)
 
-pub restart-put : {x y₁ y₂ y : List ℕ} {at r₁ r₂ r i n : ℕ} (k : Kind) (sense st p : List ℕ) → i ≡ kindIndex k → n ≡ usedIn p
-    → Puts x at (actionLine i) y₁ r₁ → Puts y₁ r₁ (mendedText k sense st) y₂ r₂ → Puts y₂ r₂ (ccwLines (ascii "restart") 0x1000 p n) y r
-    → Puts x at (restartText k sense st p) y r
+pub restart-put : {x y₁ y₂ y : List ℕ} {at r₁ r₂ r i n : ℕ} (k : Kind) (sense st p a : List ℕ) → i ≡ kindIndex k → n ≡ usedIn p
+    → Puts x at (actionLine i) y₁ r₁ → Puts y₁ r₁ (mendedText k sense st) y₂ r₂ → Puts y₂ r₂ (ccwLines (ascii "restart") 0x1000 p a n) y r
+    → Puts x at (restartText k sense st p a) y r
 unfolding restartText
-restart-put k sense st p ei en a b c = rw (← ei, ← en) (puts-then (puts-then a b) c)
+restart-put k sense st p a ei en l m c = rw (← ei, ← en) (puts-then (puts-then l m) c)
 
 pub finished-put : {x y₁ y₂ y : List ℕ} {at r₁ r₂ r : ℕ} (w : Csw) (sense st : List ℕ)
     → Puts x at (actionLine 4) y₁ r₁ → Puts y₁ r₁ (correctionText sense st) y₂ r₂ → Puts y₂ r₂ (cswLine w) y r → Puts x at (finishedText w sense st) y r
@@ -47,5 +47,5 @@ finished-put w sense st a b c = puts-then (puts-then a b) c
 pub mended : {x y s : List ℕ} {at r : ℕ} {k j : Kind} (sense st : List ℕ) → k ≡ j → Puts x at s y r → s ≡ mendedText j sense st → Puts x at (mendedText k sense st) y r
 mended sense st e q h = rw (e, ← h) q
 
-pub answered : {x y s : List ℕ} {at r : ℕ} {o a : Recovered} (sense st p : List ℕ) → o ≡ a → Puts x at s y r → s ≡ answerText a sense st p → Puts x at (answerText o sense st p) y r
-answered sense st p e q k = rw (e, ← k) q
+pub answered : {x y s : List ℕ} {at r : ℕ} {o b : Recovered} (sense st p a : List ℕ) → o ≡ b → Puts x at s y r → s ≡ answerText b sense st p a → Puts x at (answerText o sense st p a) y r
+answered sense st p a e q k = rw (e, ← k) q

@@ -41,20 +41,20 @@ mendedText Ten sense st = []
 mendedText TenA sense st = []
 
 -- "restart program, 64 bytes at 1000"
-unfoldable pub restartText : Kind → (sense storage program : List ℕ) → List ℕ
-restartText k sense st p = actionLine (kindIndex k) ++ mendedText k sense st ++ ccwLines (ascii "restart") 0x1000 p (usedIn p)
+unfoldable pub restartText : Kind → (sense storage program arguments : List ℕ) → List ℕ
+restartText k sense st p a = actionLine (kindIndex k) ++ mendedText k sense st ++ ccwLines (ascii "restart") 0x1000 p a (usedIn p)
 
 -- "finished with the CSW less unit check"
 unfoldable pub finishedText : Csw → (sense storage : List ℕ) → List ℕ
 finishedText w sense st = actionLine 4 ++ correctionText sense st ++ cswLine w
 
--- ---- an answer, with storage and the restart program behind it
+-- ---- an answer, with storage and the restart areas behind it
 
-unfoldable pub answerText : Recovered → (sense storage program : List ℕ) → List ℕ
-answerText (Refused q) sense st p = refusalLine q
-answerText ActionOne sense st p = actionLine 0
-answerText ActionTwo sense st p = actionLine 1
-answerText Repeat sense st p = actionLine 2
-answerText CorrectedOnly sense st p = actionLine 3 ++ correctionText sense st
-answerText (Finished w) sense st p = finishedText w sense st
-answerText (Restart k) sense st p = restartText k sense st p
+unfoldable pub answerText : Recovered → (sense storage program arguments : List ℕ) → List ℕ
+answerText (Refused q) sense st p a = refusalLine q
+answerText ActionOne sense st p a = actionLine 0
+answerText ActionTwo sense st p a = actionLine 1
+answerText Repeat sense st p a = actionLine 2
+answerText CorrectedOnly sense st p a = actionLine 3 ++ correctionText sense st
+answerText (Finished w) sense st p a = finishedText w sense st
+answerText (Restart k) sense st p a = restartText k sense st p a

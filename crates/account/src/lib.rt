@@ -65,7 +65,7 @@ fn put_mended(out: &mut [u8], at: usize, k: Kind, sense: &[u8], storage: &[u8]) 
     }
 }
 
-// A restart: its action, the correction, and its program.
+// A restart: its action, the correction, and its program with the arguments.
 fn put_restart(
     out: &mut [u8],
     at: usize,
@@ -73,18 +73,20 @@ fn put_restart(
     sense: &[u8],
     storage: &[u8],
     program: &[u8],
+    arguments: &[u8],
 ) -> usize
-    requires { ⌜ at + 5410 ≤ length (now out) ⌝ }
+    requires { ⌜ at + 5754 ≤ length (now out) ⌝ }
     requires { ⌜ length (now sense) ≡ 24 ⌝ }
     requires { ⌜ length (now program) ≡ 64 ⌝ }
-    ensures { λ r. ⌜ Puts (now (out .entry)) at (restartText k (now (sense .entry)) (now (storage .entry)) (now (program .entry))) (now (out .exit)) r ⌝ }
-    ensures { λ r. ⌜ r ≤ at + 5410 ⌝ }
+    requires { ⌜ length (now arguments) ≡ 16 ⌝ }
+    ensures { λ r. ⌜ Puts (now (out .entry)) at (restartText k (now (sense .entry)) (now (storage .entry)) (now (program .entry)) (now (arguments .entry))) (now (out .exit)) r ⌝ }
+    ensures { λ r. ⌜ r ≤ at + 5754 ⌝ }
 {
     let i = kind_index(k);
     let n = listing::used_in(program);
     let second = put_action(out, at, i);
     let third = put_mended(out, second, k, sense, storage);
-    listing::put_ccws(out, third, b"restart", 0x1000, program, n)
+    listing::put_ccws(out, third, b"restart", 0x1000, program, arguments, n)
 }
 
 // A chain that is finished: the correction, and the CSW.
@@ -99,7 +101,7 @@ fn put_finished(out: &mut [u8], at: usize, w: Csw, sense: &[u8], storage: &[u8])
     put_csw(out, third, w)
 }
 
-// What recovery answered, with storage and the restart program behind it.
+// What recovery answered, with storage and the restart areas behind it.
 pub fn put_answer(
     out: &mut [u8],
     at: usize,
@@ -107,12 +109,14 @@ pub fn put_answer(
     sense: &[u8],
     storage: &[u8],
     program: &[u8],
+    arguments: &[u8],
 ) -> usize
-    requires { ⌜ at + 5410 ≤ length (now out) ⌝ }
+    requires { ⌜ at + 5754 ≤ length (now out) ⌝ }
     requires { ⌜ length (now sense) ≡ 24 ⌝ }
     requires { ⌜ length (now program) ≡ 64 ⌝ }
-    ensures { λ n. ⌜ Puts (now (out .entry)) at (answerText r (now (sense .entry)) (now (storage .entry)) (now (program .entry))) (now (out .exit)) n ⌝ }
-    ensures { λ n. ⌜ n ≤ at + 5410 ⌝ }
+    requires { ⌜ length (now arguments) ≡ 16 ⌝ }
+    ensures { λ n. ⌜ Puts (now (out .entry)) at (answerText r (now (sense .entry)) (now (storage .entry)) (now (program .entry)) (now (arguments .entry))) (now (out .exit)) n ⌝ }
+    ensures { λ n. ⌜ n ≤ at + 5754 ⌝ }
 {
     match r {
         Recovered::Refused(q) => {
@@ -135,7 +139,7 @@ pub fn put_answer(
             return put_finished(out, at, w, sense, storage);
         }
         Recovered::Restart(k) => {
-            return put_restart(out, at, k, sense, storage, program);
+            return put_restart(out, at, k, sense, storage, program, arguments);
         }
     }
 }

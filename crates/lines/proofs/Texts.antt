@@ -2,22 +2,22 @@
 --   five-a-put, five-put, record-put, recovery-put     a recovery's line
 --   recoveries-turn, recoveries-none                   the lines of all, one turn of the loop and its end
 --   ended-put, limited-put, stopped-put, csw-put, end-put   the end
---   bytes-turn, bytes-none, storage-put, short-put     storage
+--   storage-put, short-put                             storage
 --   made-within                                        how many recoveries there are at most
 --   refusal-put, refused-put, over-put                 the answer
 use Prim.Native.Nat.{ℕ, zero, suc, _+_, _-_, _<_, _≤_}
 use native.Mathlib.Nat.{add-zero, not-suc-le-zero}
-use native.Mathlib.Numerals.{add-one, sub-one}
+use native.Mathlib.Numerals.{sub-one}
 use native.Mathlib.Omega.{arith}
 use mathlib.Core.Path.{_≡_, refl, ap, sym, _∙_}
 use mathlib.Core.List.{List, [], _∷_, _++_}
-use lib.ListN.{length, getD, take, drop, drop-of-length-le}
-use lib.Seq.{getD-drop, drop-drop, drop-cons, take-all}
+use lib.ListN.{length, getD, take, drop}
+use lib.Seq.{getD-drop, drop-drop, take-all}
 use borrow.Author.Tests.{eq-eqb, ne-eqb}
 use Rattle.base.specs.Choice.{pick}
 use Rattle.base.specs.Bytes.{be16At}
 use Rattle.base.proofs.Bytes.{be16-drop}
-use Rattle.text.specs.Text.{Puts, ascii, digits, number}
+use Rattle.text.specs.Text.{Puts, ascii, number, bytesText}
 use Rattle.text.proofs.Written.{puts-then, puts-none}
 use Rattle.questions.specs.declared.Question.{Question}
 use Rattle.questions.specs.Number.{numberOf}
@@ -28,7 +28,7 @@ use Rattle.whole.specs.declared.Over as Code
 use Rattle.whole.specs.declared.Outcome.{Outcome}
 use Rattle.whole.specs.declared.Outcome.the-variants.{Refused, Over}
 use Rattle.whole.specs.Reading.{MadeWithin}
-use Rattle.lines.specs.Lines.{actionName, recordText, recoveryLine, recoveryLines, endName, cswText, endLine, bytesText, storageLine, refusalLine, answerText}
+use Rattle.lines.specs.Lines.{actionName, recordText, recoveryLine, recoveryLines, endName, cswText, endLine, storageLine, refusalLine, answerText}
 
 -- ---- a recovery's line
 
@@ -103,19 +103,6 @@ unfolding endLine
 end-put how w p o = puts-then p o
 
 -- ---- storage
-
-bytes-more : (s : List ℕ) (i : ℕ) → i < length s → bytesText (drop i s) ≡ digits 16 2 (getD s i 0) ++ bytesText (drop (i + 1) s)
-unfolding bytesText
-bytes-more s i h = rw (drop-cons s i 0 h, add-one)
-
-module _ {x : List ℕ} {at : ℕ} (s : List ℕ) (i : ℕ) where
-  pub bytes-turn : {y : List ℕ} {r n : ℕ} → i < length s → n ≡ getD s i 0 → Puts x at (digits 16 2 n) y r
-      → (z : List ℕ) (q : ℕ) → Puts y r (bytesText (drop (i + 1) s)) z q → Puts x at (bytesText (drop i s)) z q
-  bytes-turn h e p z q o = rw (bytes-more s i h, ← e) (puts-then p o)
-
-  pub bytes-none : length s ≤ i → Puts x at (bytesText (drop i s)) x at
-  unfolding bytesText
-  bytes-none h = rw (drop-of-length-le s h) (puts-none x at)
 
 module _ {x y z : List ℕ} {at r q : ℕ} (st : List ℕ) where
   pub storage-put : Puts x at (bytesText (take 16 st)) y r → Puts y r (0x0a ∷ []) z q → Puts x at (storageLine st) z q

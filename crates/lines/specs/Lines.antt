@@ -1,11 +1,11 @@
 -- The lines that the program prints for an answer (document 01, the last paragraph under "Proved cases").
 use Prim.Native.Nat.{ℕ, zero, suc}
-use mathlib.Core.List.{List, [], _∷_, _++_}
+use mathlib.Core.List.{List, [], _++_}
 use lib.Dec.{eqb}
 use lib.ListN.{getD, take, drop}
 use Rattle.base.specs.Choice.{pick}
 use Rattle.base.specs.Bytes.{be16At}
-use Rattle.text.specs.Text.{ascii, digits, number}
+use Rattle.text.specs.Text.{ascii, number, bytesText}
 use Rattle.questions.specs.declared.Question.{Question}
 use Rattle.questions.specs.Number.{numberOf}
 use Rattle.channel.specs.declared.Csw.{Csw}
@@ -49,11 +49,6 @@ unfoldable pub endLine : How → Csw → List ℕ
 endLine h w = endName h ++ cswText w
 
 -- ---- storage
-
--- bytes as two hexadecimal digits each
-unfoldable pub bytesText : List ℕ → List ℕ
-bytesText [] = []
-bytesText (b ∷ s) = digits 16 2 b ++ bytesText s
 
 -- "and the first 16 bytes of storage"
 unfoldable pub storageLine : List ℕ → List ℕ

@@ -9,7 +9,7 @@ ghost use Prim.Native.Nat.{_+_, _*_, _-_, _≤_};
 ghost use lib.ListN.{length, drop};
 ghost use Rattle.text.specs.Text.{Puts};
 ghost use Rattle.whole.specs.Reading.{MadeWithin};
-ghost use Rattle.lines.specs.Lines.{room, actionName, recordText, recoveryLine, recoveryLines, endName, cswText, endLine, bytesText, storageLine, refusalLine, answerText};
+ghost use Rattle.lines.specs.Lines.{room, actionName, recordText, recoveryLine, recoveryLines, endName, cswText, endLine, storageLine, refusalLine, answerText};
 
 // The bytes of the longest answer: 4,096 recoveries of 21, an end of 28, storage of 33.
 pub const ROOM: usize = 86077;
@@ -122,21 +122,6 @@ fn put_end(out: &mut [u8], at: usize, how: How, w: Csw) -> usize
 
 // ---- storage
 
-// Bytes as two digits each.
-fn put_bytes(out: &mut [u8], at: usize, s: &[u8]) -> usize
-    requires { ⌜ at + length (now s) * 2 ≤ length (now out) ⌝ }
-    ensures { λ r. ⌜ Puts (now (out .entry)) at (bytesText (now (s .entry))) (now (out .exit)) r ⌝ }
-    ensures { λ r. ⌜ r ≡ at + length (now (s .entry)) * 2 ⌝ }
-{
-    let mut next = at;
-    let mut i = 0;
-    while i < s.len() {
-        next = text::put_digits(out, next, 16, 2, base::byte(s, i));
-        i += 1;
-    }
-    next
-}
-
 // The first 16 bytes of storage, or all of a shorter one.
 fn put_storage(out: &mut [u8], at: usize, storage: &[u8]) -> usize
     requires { ⌜ at + 33 ≤ length (now out) ⌝ }
@@ -144,10 +129,10 @@ fn put_storage(out: &mut [u8], at: usize, storage: &[u8]) -> usize
     ensures { λ r. ⌜ r ≤ at + 33 ⌝ }
 {
     if storage.len() < 16 {
-        let short = put_bytes(out, at, storage);
+        let short = text::put_bytes(out, at, storage);
         return text::put(out, short, b"\n");
     }
-    let end = put_bytes(out, at, &storage[..16]);
+    let end = text::put_bytes(out, at, &storage[..16]);
     text::put(out, end, b"\n")
 }
 

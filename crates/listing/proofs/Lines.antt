@@ -1,18 +1,20 @@
 -- Lines of CCWs, from the texts that the code puts one behind the other.
---   head-put, operands-put, ccw-put   the line of a CCW
---   slot-none, slot-put               that of a place of an area
---   used-here, used-turn, used-all    how many CCWs of a restart program are used
+--   head-put, operands-put, ccw-put                   the line of a CCW
+--   argument-before, -past, -long, argument-put       the argument that it names: none, or one
+--   slot-none, slot-put                               the line of a place of an area
+--   used-here, used-turn, used-all                    how many CCWs of a restart program are used
 use Prim.Native.Nat.{ℕ, zero, suc, _+_, _-_, _*_, _<_, _≤_}
-use native.Mathlib.Nat.{not-suc-le-zero}
+use native.Mathlib.Nat.{not-suc-le-zero, add-sub-cancel-left}
 use native.Mathlib.Numerals.{sub-one}
 use native.Mathlib.Omega.{arith}
 use mathlib.Core.Path.{_≡_, refl, sym, _∙_}
+use mathlib.Core.Bool.{true, false, _&&_}
 use mathlib.Core.List.{List, [], _∷_, _++_}
-use lib.Dec.{eqb}
-use lib.ListN.{getD}
-use borrow.Author.Tests.{eq-eqb, ne-eqb}
+use lib.Dec.{eqb, ltb, leb}
+use lib.ListN.{length, getD, take, drop}
+use borrow.Author.Tests.{eq-eqb, ne-eqb, lt-ltb, le-ltb, le-leb, lt-leb}
 use Rattle.base.specs.Choice.{pick, opt}
-use Rattle.text.specs.Text.{Puts, ascii, number}
+use Rattle.text.specs.Text.{Puts, ascii, number, bytesText}
 use Rattle.text.proofs.Written.{puts-then, puts-none}
 use Rattle.channel.specs.declared.Ccw.{Ccw}
 use Rattle.channel.specs.declared.Location.the-variants.{Chain}
@@ -21,7 +23,7 @@ use Rattle.channel.specs.declared.Slot.the-variants.{Holds, Past}
 use Rattle.channel.specs.Ccw.{fetch, fetchIn}
 use Rattle.channel.specs.Fetch.{slotOf, Fetches}
 use Rattle.names.specs.Names.{commandName, flagsText}
-use Rattle.listing.specs.Listing.{headText, operandText, ccwLine, slotLine, usedFrom}
+use Rattle.listing.specs.Listing.{headText, operandText, namesArgument, argumentText, ccwLine, slotLine, usedFrom}
 
 pub head-put : {x y₁ y₂ y₃ y₄ y : List ℕ} {at r₁ r₂ r₃ r₄ r code : ℕ} (label : List ℕ) (place command : ℕ) → code ≡ command
     → Puts x at label y₁ r₁ → Puts y₁ r₁ (number 16 4 place) y₂ r₂ → Puts y₂ r₂ (0x3a ∷ []) y₃ r₃ → Puts y₃ r₃ (number 16 2 code) y₄ r₄
@@ -29,27 +31,62 @@ pub head-put : {x y₁ y₂ y₃ y₄ y : List ℕ} {at r₁ r₂ r₃ r₄ r co
 unfolding headText ascii
 head-put label place command h a b c d e = rw (← h) (puts-then (puts-then (puts-then (puts-then a b) c) d) e)
 
-pub operands-put : {x y₁ y₂ y₃ y₄ y₅ y : List ℕ} {at r₁ r₂ r₃ r₄ r₅ r : ℕ} (w : Ccw)
+pub operands-put : {x y₁ y₂ y₃ y₄ y : List ℕ} {at r₁ r₂ r₃ r₄ r : ℕ} (w : Ccw)
     → Puts x at (ascii ", address") y₁ r₁ → Puts y₁ r₁ (number 16 6 (w .address)) y₂ r₂ → Puts y₂ r₂ (ascii ", count") y₃ r₃
-    → Puts y₃ r₃ (number 16 4 (w .count)) y₄ r₄ → Puts y₄ r₄ (flagsText (w .flags)) y₅ r₅ → Puts y₅ r₅ (ascii "\n") y r → Puts x at (operandText w) y r
+    → Puts y₃ r₃ (number 16 4 (w .count)) y₄ r₄ → Puts y₄ r₄ (flagsText (w .flags)) y r → Puts x at (operandText w) y r
 unfolding operandText
-operands-put w a b c d e f = puts-then (puts-then (puts-then (puts-then (puts-then a b) c) d) e) f
+operands-put w a b c d e = puts-then (puts-then (puts-then (puts-then a b) c) d) e
 
-pub ccw-put : {x y₁ y₂ y : List ℕ} {at r₁ r₂ r : ℕ} (label : List ℕ) (place : ℕ) (w : Ccw)
-    → Puts x at (headText label place (w .command)) y₁ r₁ → Puts y₁ r₁ (commandName w) y₂ r₂ → Puts y₂ r₂ (operandText w) y r → Puts x at (ccwLine label place w) y r
+pub ccw-put : {x y₁ y₂ y₃ y₄ y : List ℕ} {at r₁ r₂ r₃ r₄ r : ℕ} (label : List ℕ) (place : ℕ) (arguments : List ℕ) (w : Ccw)
+    → Puts x at (headText label place (w .command)) y₁ r₁ → Puts y₁ r₁ (commandName w) y₂ r₂ → Puts y₂ r₂ (operandText w) y₃ r₃
+    → Puts y₃ r₃ (argumentText arguments w) y₄ r₄ → Puts y₄ r₄ (ascii "\n") y r → Puts x at (ccwLine label place arguments w) y r
 unfolding ccwLine
-ccw-put label place w a b c = puts-then (puts-then a b) c
+ccw-put label place arguments w a b c d e = puts-then (puts-then (puts-then (puts-then a b) c) d) e
 
-module _ (label : List ℕ) (origin : ℕ) (s : List ℕ) (i : ℕ) {t : List ℕ} (o : Slot) (f : Fetches s t (Chain (i * 8)) o) where
+-- ---- the argument that it names
+
+module _ (arguments : List ℕ) (w : Ccw) where
+  unnamed : (x : List ℕ) (at : ℕ) → namesArgument arguments w ≡ false → Puts x at (argumentText arguments w) x at
+  unfolding argumentText pick
+  unnamed x at h = rw h (puts-none x at)
+
+  pub argument-before : (x : List ℕ) (at : ℕ) → w .address < 0x2000 → Puts x at (argumentText arguments w) x at
+  unfolding namesArgument
+  argument-before x at h = unnamed x at (rw (lt-leb 0x2000 (w .address) h))
+
+  module _ (h : 0x2000 ≤ w .address) where
+    pub argument-past : (x : List ℕ) (at : ℕ) → length arguments ≤ w .address - 0x2000 → Puts x at (argumentText arguments w) x at
+    unfolding namesArgument
+    argument-past x at k = unnamed x at (rw (le-leb 0x2000 (w .address) h, le-ltb _ _ k))
+
+    module _ (k : w .address - 0x2000 < length arguments) where
+      pub argument-long : (x : List ℕ) (at : ℕ) → length arguments - (w .address - 0x2000) < w .count → Puts x at (argumentText arguments w) x at
+      unfolding namesArgument
+      argument-long x at l = unnamed x at (rw (le-leb 0x2000 (w .address) h, lt-ltb _ _ k, lt-leb (w .address - 0x2000 + w .count) (length arguments) (omega arith)))
+
+      named : w .count ≤ length arguments - (w .address - 0x2000) → namesArgument arguments w ≡ true
+      unfolding namesArgument
+      named l = rw (le-leb 0x2000 (w .address) h, lt-ltb _ _ k, le-leb (w .address - 0x2000 + w .count) (length arguments) (omega arith))
+
+      pub argument-put : {x y₁ y : List ℕ} {at r₁ r : ℕ} → w .count ≤ length arguments - (w .address - 0x2000) → Puts x at (ascii ", argument ") y₁ r₁
+          → Puts y₁ r₁ (bytesText (take (w .address - 0x2000 + w .count - (w .address - 0x2000)) (drop (w .address - 0x2000) arguments))) y r
+          → Puts x at (argumentText arguments w) y r
+      unfolding argumentText pick
+      argument-put l a b = rw (named l) (puts-then a (rw add-sub-cancel-left at b))
+
+-- ---- a place of an area
+
+module _ (label : List ℕ) (origin : ℕ) (s arguments : List ℕ) (i : ℕ) {t : List ℕ} (o : Slot) (f : Fetches s t (Chain (i * 8)) o) where
   fetched : slotOf o ≡ fetchIn s (i * 8)
   unfolding fetch
   fetched = f (record { chain = s; arguments = []; program = t; restartArguments = [] }) refl refl
 
-  pub slot-none : (x : List ℕ) (at : ℕ) → o ≡ Past → Puts x at (slotLine label origin s i) x at
+  pub slot-none : (x : List ℕ) (at : ℕ) → o ≡ Past → Puts x at (slotLine label origin s arguments i) x at
   unfolding slotLine opt
   slot-none x at e = rw (← fetched, e) (puts-none x at)
 
-  pub slot-put : {x y : List ℕ} {at r : ℕ} {w : Ccw} → o ≡ Holds w → Puts x at (ccwLine label (origin + i * 8) w) y r → Puts x at (slotLine label origin s i) y r
+  pub slot-put : {x y : List ℕ} {at r : ℕ} {w : Ccw} → o ≡ Holds w → Puts x at (ccwLine label (origin + i * 8) arguments w) y r
+      → Puts x at (slotLine label origin s arguments i) y r
   unfolding slotLine opt
   slot-put e p = rw (← fetched, e) p
 

@@ -1,10 +1,11 @@
 -- Lines of CCWs.
-use Prim.Native.Nat.{ℕ, zero, suc, _+_, _*_}
+use Prim.Native.Nat.{ℕ, zero, suc, _+_, _-_, _*_}
+use mathlib.Core.Bool.{Bool, _&&_}
 use mathlib.Core.List.{List, [], _++_}
-use lib.Dec.{eqb}
-use lib.ListN.{getD}
+use lib.Dec.{eqb, ltb, leb}
+use lib.ListN.{length, getD, take, drop}
 use Rattle.base.specs.Choice.{pick, opt}
-use Rattle.text.specs.Text.{ascii, number}
+use Rattle.text.specs.Text.{ascii, number, bytesText}
 use Rattle.words.specs.Each.{each}
 use Rattle.channel.specs.declared.Ccw.{Ccw}
 use Rattle.channel.specs.Ccw.{fetchIn}
@@ -16,18 +17,28 @@ headText label place command = label ++ number 16 4 place ++ ascii ":" ++ number
 
 -- address, count, and the flags that are on
 unfoldable pub operandText : Ccw → List ℕ
-operandText c = ascii ", address" ++ number 16 6 (c .address) ++ ascii ", count" ++ number 16 4 (c .count) ++ flagsText (c .flags) ++ ascii "\n"
+operandText c = ascii ", address" ++ number 16 6 (c .address) ++ ascii ", count" ++ number 16 4 (c .count) ++ flagsText (c .flags)
 
-unfoldable pub ccwLine : List ℕ → ℕ → Ccw → List ℕ
-ccwLine label place c = headText label place (c .command) ++ commandName c ++ operandText c
+-- "restart arguments, 16 bytes at 2000": whether all bytes that a CCW names lie there
+unfoldable pub namesArgument : List ℕ → Ccw → Bool
+namesArgument arguments c =
+    leb 0x2000 (c .address) && ltb (c .address - 0x2000) (length arguments) && leb (c .address - 0x2000 + c .count) (length arguments)
+
+-- those bytes, or nothing where they lie elsewhere; the area is empty where a chain is listed
+unfoldable pub argumentText : List ℕ → Ccw → List ℕ
+argumentText arguments c =
+    pick (namesArgument arguments c) (ascii ", argument " ++ bytesText (take (c .count) (drop (c .address - 0x2000) arguments))) []
+
+unfoldable pub ccwLine : List ℕ → ℕ → List ℕ → Ccw → List ℕ
+ccwLine label place arguments c = headText label place (c .command) ++ commandName c ++ operandText c ++ argumentText arguments c ++ ascii "\n"
 
 -- the line of the CCW with number i of an area that begins at an address, if it has one
-unfoldable pub slotLine : List ℕ → ℕ → List ℕ → ℕ → List ℕ
-slotLine label origin s i = opt (fetchIn s (i * 8)) [] (λ c. ccwLine label (origin + i * 8) c)
+unfoldable pub slotLine : List ℕ → ℕ → (area arguments : List ℕ) → ℕ → List ℕ
+slotLine label origin s arguments i = opt (fetchIn s (i * 8)) [] (λ c. ccwLine label (origin + i * 8) arguments c)
 
 -- the lines of the first n
-unfoldable pub ccwLines : List ℕ → ℕ → List ℕ → ℕ → List ℕ
-ccwLines label origin s n = each n 0 (slotLine label origin s)
+unfoldable pub ccwLines : List ℕ → ℕ → (area arguments : List ℕ) → ℕ → List ℕ
+ccwLines label origin s arguments n = each n 0 (slotLine label origin s arguments)
 
 -- How many CCWs of a restart program are used: "unused bytes 0", and no command of one is 00. At most n behind the first i are looked at.
 unfoldable pub usedFrom : ℕ → List ℕ → ℕ → ℕ

@@ -1,25 +1,31 @@
 -- Lines of sense bits and of a row, from the texts that the code puts one behind the other.
---   bit-put                    a bit's byte and bit
---   sense-off, sense-put       the line of a sense bit
---   asked-off, asked-put       a bit that a row asks for
---   head-put, line-put         the line of a row
---   row-none, row-put          that of the row that sense bytes match
+--   bit-put                                a bit's byte and bit
+--   sense-off, sense-put                   the line of a sense bit
+--   asked-off, asked-put                   a bit that a row asks for
+--   other-format, whole-count, truncated   the line of a channel truncation
+--   lines-put                              all lines of the sense
+--   head-put, line-put                     the line of a row
+--   row-none, row-put                      that of the row that sense bytes match
 use Prim.Native.Nat.{ℕ, _/_, _%_}
 use mathlib.Core.Path.{_≡_, refl, sym, _∙_}
-use mathlib.Core.Bool.{Bool, true, false}
+use mathlib.Core.Bool.{Bool, true, false, _&&_}
 use mathlib.Core.Option.{Option, none, some}
 use mathlib.Core.List.{List, [], _∷_, _++_}
+use lib.Dec.{eqb}
 use lib.ListN.{getD}
+use borrow.Author.Tests.{eq-eqb, ne-eqb}
 use Rattle.base.specs.Choice.{pick, opt}
+use Rattle.base.specs.Bits.{bitOn}
 use Rattle.text.specs.Text.{Puts, ascii, digits, number}
 use Rattle.text.proofs.Written.{puts-then, puts-none}
+use Rattle.words.specs.Each.{each}
 use Rattle.recovery.specs.Table.{rows}
 use Rattle.table.specs.declared.Row.{Row}
 use Rattle.table.specs.declared.Matched.{Matched}
 use Rattle.table.specs.declared.Matched.the-variants.{First, Nothing}
 use Rattle.table.specs.Table.{rowOf, firstRow, matchedOf, Matches}
 use Rattle.names.specs.Names.{senseName, actionName}
-use Rattle.sensed.specs.Sensed.{bitIn, bitText, senseLine, rowBit, rowBits, rowHead, rowLine, rowText}
+use Rattle.sensed.specs.Sensed.{bitIn, bitText, senseLine, truncationLine, senseLines, rowBit, rowBits, rowHead, rowLine, rowText}
 
 pub bit-put : {x y₁ y₂ y : List ℕ} {at r₁ r₂ r : ℕ} (i : ℕ)
     → Puts x at (digits 10 1 (i / 8)) y₁ r₁ → Puts y₁ r₁ (ascii ".") y₂ r₂ → Puts y₂ r₂ (digits 10 1 (i % 8)) y r → Puts x at (bitText i) y r
@@ -44,6 +50,24 @@ module _ (s : List ℕ) (i : ℕ) where
   pub asked-put : {x y₁ y : List ℕ} {at r₁ r : ℕ} → bitIn s i ≡ true → Puts x at (ascii " ") y₁ r₁ → Puts y₁ r₁ (bitText i) y r → Puts x at (rowBit s i) y r
   unfolding rowBit pick
   asked-put h a b = rw h (puts-then a b)
+
+module _ (s : List ℕ) where
+  pub other-format : (x : List ℕ) (at : ℕ) → (getD s 7 0 ≡ 0x53 → ⊥) → Puts x at (truncationLine s) x at
+  unfolding truncationLine pick
+  other-format x at h = rw (ne-eqb _ _ h) (puts-none x at)
+
+  module _ (h : getD s 7 0 ≡ 0x53) where
+    pub whole-count : (x : List ℕ) (at : ℕ) → bitOn 7 (getD s 23 0) ≡ false → Puts x at (truncationLine s) x at
+    unfolding truncationLine pick
+    whole-count x at b = rw (eq-eqb _ _ h, b) (puts-none x at)
+
+    pub truncated : {x y : List ℕ} {at r : ℕ} → bitOn 7 (getD s 23 0) ≡ true → Puts x at (ascii "sense 23.7: channel truncation\n") y r → Puts x at (truncationLine s) y r
+    unfolding truncationLine pick
+    truncated b p = rw (eq-eqb _ _ h, b) p
+
+  pub lines-put : {x y₁ y : List ℕ} {at r₁ r : ℕ} → Puts x at (each 24 0 (senseLine s)) y₁ r₁ → Puts y₁ r₁ (truncationLine s) y r → Puts x at (senseLines s) y r
+  unfolding senseLines
+  lines-put a b = puts-then a b
 
 pub head-put : {x y₁ y₂ y₃ y : List ℕ} {at r₁ r₂ r₃ r : ℕ} (n : ℕ) (asked : List ℕ)
     → Puts x at (ascii "row") y₁ r₁ → Puts y₁ r₁ (number 10 2 n) y₂ r₂ → Puts y₂ r₂ (ascii ":") y₃ r₃ → Puts y₃ r₃ (rowBits asked) y r

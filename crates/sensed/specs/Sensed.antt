@@ -1,7 +1,8 @@
 -- Lines of a report's sense bits, and of the row of the error table that they match.
 use Prim.Native.Nat.{ℕ, _/_, _%_}
-use mathlib.Core.Bool.{Bool}
+use mathlib.Core.Bool.{Bool, _&&_}
 use mathlib.Core.List.{List, [], _∷_, _++_}
+use lib.Dec.{eqb}
 use lib.ListN.{getD}
 use Rattle.base.specs.Choice.{pick, opt}
 use Rattle.base.specs.Bits.{bitOn}
@@ -25,8 +26,12 @@ bitText i = digits 10 1 (i / 8) ++ ascii "." ++ digits 10 1 (i % 8)
 unfoldable pub senseLine : List ℕ → ℕ → List ℕ
 senseLine sense i = pick (bitIn sense i) (ascii "sense " ++ bitText i ++ ascii ": " ++ senseName i ++ ascii "\n") []
 
+-- "23 bit 7 if the count ran out first", where "7 = 53": source document 002 calls the bit channel truncation
+unfoldable pub truncationLine : List ℕ → List ℕ
+truncationLine sense = pick (eqb (getD sense 7 0) 0x53 && bitOn 7 (getD sense 23 0)) (ascii "sense 23.7: channel truncation\n") []
+
 unfoldable pub senseLines : List ℕ → List ℕ
-senseLines sense = each 24 0 (senseLine sense)
+senseLines sense = each 24 0 (senseLine sense) ++ truncationLine sense
 
 -- ---- the row
 

@@ -6,7 +6,7 @@ ghost use Prim.Native.Nat.{_+_, _<_, _≤_};
 ghost use lib.ListN.{length};
 ghost use Rattle.text.specs.Text.{Puts};
 ghost use Rattle.table.specs.Table.{rowOf};
-ghost use Rattle.sensed.specs.Sensed.{bitIn, bitText, senseLine, senseLines, rowBit, rowBits, rowHead, rowLine, rowText};
+ghost use Rattle.sensed.specs.Sensed.{bitIn, bitText, senseLine, truncationLine, senseLines, rowBit, rowBits, rowHead, rowLine, rowText};
 
 // ---- a bit of sense bytes 0 to 2, by its number from bit 0 of byte 0 on
 
@@ -49,12 +49,28 @@ fn put_sense_bit(out: &mut [u8], at: usize, sense: &[u8], i: usize) -> usize
     text::put(out, end, b"\n")
 }
 
-// The lines of all that are on.
+// The line of a channel truncation, if byte 7 is 53 and bit 7 of byte 23 is on.
+fn put_truncation(out: &mut [u8], at: usize, sense: &[u8]) -> usize
+    requires { ⌜ at + 31 ≤ length (now out) ⌝ }
+    requires { ⌜ 24 ≤ length (now sense) ⌝ }
+    ensures { λ r. ⌜ Puts (now (out .entry)) at (truncationLine (now (sense .entry))) (now (out .exit)) r ⌝ }
+    ensures { λ r. ⌜ r ≤ at + 31 ⌝ }
+{
+    if sense[7] != 0x53 {
+        return at;
+    }
+    if !base::bit(sense[23], 7) {
+        return at;
+    }
+    text::put(out, at, b"sense 23.7: channel truncation\n")
+}
+
+// The lines of all that are on in bytes 0 to 2, and that of a channel truncation.
 pub fn put_sense(out: &mut [u8], at: usize, sense: &[u8]) -> usize
-    requires { ⌜ at + 1824 ≤ length (now out) ⌝ }
-    requires { ⌜ 3 ≤ length (now sense) ⌝ }
+    requires { ⌜ at + 1855 ≤ length (now out) ⌝ }
+    requires { ⌜ 24 ≤ length (now sense) ⌝ }
     ensures { λ r. ⌜ Puts (now (out .entry)) at (senseLines (now (sense .entry))) (now (out .exit)) r ⌝ }
-    ensures { λ r. ⌜ r ≤ at + 1824 ⌝ }
+    ensures { λ r. ⌜ r ≤ at + 1855 ⌝ }
 {
     let mut next = at;
     let mut i = 0;
@@ -62,7 +78,7 @@ pub fn put_sense(out: &mut [u8], at: usize, sense: &[u8]) -> usize
         next = put_sense_bit(out, next, sense, i);
         i += 1;
     }
-    next
+    put_truncation(out, next, sense)
 }
 
 // ---- the row

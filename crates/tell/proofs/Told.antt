@@ -9,7 +9,7 @@ use Prim.Native.Nat.{ℕ, _+_, _-_, _≤_}
 use native.Mathlib.Omega.{arith}
 use mathlib.Core.Path.{_≡_, refl, ap, sym, _∙_}
 use mathlib.Core.Option.{Option, none, some}
-use mathlib.Core.List.{List, _++_}
+use mathlib.Core.List.{List, [], _++_}
 use lib.ListN.{length, take, drop, replicate, length-drop}
 use lib.Seq.{take-all}
 use Rattle.base.specs.Choice.{opt}
@@ -36,10 +36,11 @@ use Rattle.inquiry.specs.Inquiry.{Parts, partsOf}
 use Rattle.inquiry.specs.Found.{partsIn, foundIn, Ordered, Inside}
 use Rattle.tell.specs.Tell.{senseOf, reportText, recoveryOf, explained, printed}
 
-pub told-put : {x y₁ y₂ y : List ℕ} {at r₁ r₂ r : ℕ} (o : Recovered) (sense st p : List ℕ)
-    → Puts x at (senseLines sense) y₁ r₁ → Puts y₁ r₁ (rowText sense) y₂ r₂ → Puts y₂ r₂ (answerText o sense st p) y r → Puts x at (reportText o sense st p) y r
+pub told-put : {x y₁ y₂ y : List ℕ} {at r₁ r₂ r : ℕ} (o : Recovered) (sense st p a : List ℕ)
+    → Puts x at (senseLines sense) y₁ r₁ → Puts y₁ r₁ (rowText sense) y₂ r₂ → Puts y₂ r₂ (answerText o sense st p a) y r
+    → Puts x at (reportText o sense st p a) y r
 unfolding reportText
-told-put o sense st p a b c = puts-then (puts-then a b) c
+told-put o sense st p a l m n = puts-then (puts-then l m) n
 
 -- ---- the sense of a report
 
@@ -70,8 +71,8 @@ module _ (s : List ℕ) (p : Places) (o : Recovered) (st q a : List ℕ)
   unfolding recoveryOf part
   recovered = e ∙ rw (tail s (p .extent))
 
-  pub parts-put : {x y₁ y : List ℕ} {r₁ r : ℕ} → Puts x 0 (ccwLines (ascii "ccw") 0 (take (p .report - p .chain) (drop (p .chain) s)) 256) y₁ r₁
-      → Puts y₁ r₁ (reportText o (senseOf (take (p .end - p .report) (drop (p .report) s))) st q) y r → Puts x 0 (explained (partsIn s p)) y r
+  pub parts-put : {x y₁ y : List ℕ} {r₁ r : ℕ} → Puts x 0 (ccwLines (ascii "ccw") 0 (take (p .report - p .chain) (drop (p .chain) s)) [] 256) y₁ r₁
+      → Puts y₁ r₁ (reportText o (senseOf (take (p .end - p .report) (drop (p .report) s))) st q a) y r → Puts x 0 (explained (partsIn s p)) y r
   unfolding explained part
   parts-put c t = rw (← recovered) (puts-then c t)
 

@@ -11,8 +11,8 @@ ghost use Rattle.text.specs.Text.{Puts};
 ghost use Rattle.inquiry.specs.Found.{partsIn, Ordered};
 ghost use Rattle.tell.specs.Tell.{room, senseOf, reportText, explained, printed};
 
-// The bytes of the longest text: 256 CCWs of 639, sense bits of 1,824, a row of 177, an answer of 5,410.
-pub const ROOM: usize = 170995;
+// The bytes of the longest text: 256 CCWs of 682, sense bits of 1,855, a row of 177, an answer of 5,754.
+pub const ROOM: usize = 182378;
 
 // Sense bits and row, and what recovery answered.
 fn put_told(
@@ -22,16 +22,18 @@ fn put_told(
     sense: &[u8],
     storage: &[u8],
     program: &[u8],
+    arguments: &[u8],
 ) -> usize
-    requires { ⌜ at + 7411 ≤ length (now out) ⌝ }
+    requires { ⌜ at + 7786 ≤ length (now out) ⌝ }
     requires { ⌜ length (now sense) ≡ 24 ⌝ }
     requires { ⌜ length (now program) ≡ 64 ⌝ }
-    ensures { λ n. ⌜ Puts (now (out .entry)) at (reportText r (now (sense .entry)) (now (storage .entry)) (now (program .entry))) (now (out .exit)) n ⌝ }
-    ensures { λ n. ⌜ n ≤ at + 7411 ⌝ }
+    requires { ⌜ length (now arguments) ≡ 16 ⌝ }
+    ensures { λ n. ⌜ Puts (now (out .entry)) at (reportText r (now (sense .entry)) (now (storage .entry)) (now (program .entry)) (now (arguments .entry))) (now (out .exit)) n ⌝ }
+    ensures { λ n. ⌜ n ≤ at + 7786 ⌝ }
 {
     let row = sensed::put_sense(out, at, sense);
     let answer = sensed::put_row(out, row, sense);
-    account::put_answer(out, answer, r, sense, storage, program)
+    account::put_answer(out, answer, r, sense, storage, program, arguments)
 }
 
 // The same for a report: one that is not well formed shows no sense.
@@ -42,17 +44,19 @@ fn put_reported(
     report: &[u8],
     storage: &[u8],
     program: &[u8],
+    arguments: &[u8],
 ) -> usize
-    requires { ⌜ at + 7411 ≤ length (now out) ⌝ }
+    requires { ⌜ at + 7786 ≤ length (now out) ⌝ }
     requires { ⌜ length (now program) ≡ 64 ⌝ }
-    ensures { λ n. ⌜ Puts (now (out .entry)) at (reportText r (senseOf (now (report .entry))) (now (storage .entry)) (now (program .entry))) (now (out .exit)) n ⌝ }
-    ensures { λ n. ⌜ n ≤ at + 7411 ⌝ }
+    requires { ⌜ length (now arguments) ≡ 16 ⌝ }
+    ensures { λ n. ⌜ Puts (now (out .entry)) at (reportText r (senseOf (now (report .entry))) (now (storage .entry)) (now (program .entry)) (now (arguments .entry))) (now (out .exit)) n ⌝ }
+    ensures { λ n. ⌜ n ≤ at + 7786 ⌝ }
 {
     let Reported::Well(_) = report::read(report) else {
         let unread = [0u8; 24];
-        return put_told(out, at, r, &unread, storage, program);
+        return put_told(out, at, r, &unread, storage, program, arguments);
     };
-    put_told(out, at, r, &report[3..27], storage, program)
+    put_told(out, at, r, &report[3..27], storage, program, arguments)
 }
 
 // The text for the parts at their places. Storage and the restart areas begin as zeros.
@@ -77,8 +81,16 @@ fn put_parts(input: &[u8], p: Places, out: &mut [u8]) -> usize
         &mut program,
         &mut arguments,
     );
-    let next = listing::put_ccws(out, 0, b"ccw", 0, &input[chain..report], 256);
-    put_reported(out, next, r, &input[report..end], &storage, &program)
+    let next = listing::put_ccws(out, 0, b"ccw", 0, &input[chain..report], &input[..0], 256);
+    put_reported(
+        out,
+        next,
+        r,
+        &input[report..end],
+        &storage,
+        &program,
+        &arguments,
+    )
 }
 
 // What the program prints for an input, at the front of an area that has room for the longest text; how many bytes it has.

@@ -13,6 +13,7 @@
 --   puts-then, puts-none      a text behind a text; no text
 --   puts-digits, puts-number  digits, and a space in front of them
 --   first-kept                an area keeps its length where a byte is stored and a text is put
+--   bytes-turn, bytes-none    bytes in digits: one turn of the loop that puts them, and its end
 use Prim.Native.Nat.{ℕ, zero, suc, _+_, _-_, _/_, _%_, _<_, _≤_}
 use native.Mathlib.Nat.{add-zero, zero-add, suc-add, not-suc-le-zero, le-of-suc-le-suc}
 use native.Mathlib.Numerals.{add-one, sub-one}
@@ -21,7 +22,7 @@ use mathlib.Core.Path.{_≡_, refl, ap, sym, _∙_}
 use mathlib.Core.List.{List, [], _∷_, _++_}
 use lib.ListN.{length, take, drop, getD, set, length-append, length-set, drop-of-length-le}
 use lib.Seq.{drop-cons}
-use Rattle.text.specs.Text.{written, Puts, character, digits, number}
+use Rattle.text.specs.Text.{written, Puts, character, digits, number, bytesText}
 
 pub length-written : (x : List ℕ) (at : ℕ) (s : List ℕ) → length (written x at s) ≡ length x
 unfolding written
@@ -128,3 +129,18 @@ puts-number x y at base k n r p = record {
 -- an area after a store and a text
 pub first-kept : (x : List ℕ) (a b at : ℕ) (s y : List ℕ) (r : ℕ) → Puts (set x a b) at s y r → length y ≡ length x
 first-kept x a b at s y r p = same-length-of-puts p ∙ length-set x a b
+
+-- ---- bytes in digits
+
+bytes-more : (s : List ℕ) (i : ℕ) → i < length s → bytesText (drop i s) ≡ digits 16 2 (getD s i 0) ++ bytesText (drop (i + 1) s)
+unfolding bytesText
+bytes-more s i h = rw (drop-cons s i 0 h, add-one)
+
+module _ {x : List ℕ} {at : ℕ} (s : List ℕ) (i : ℕ) where
+  pub bytes-turn : {y : List ℕ} {r n : ℕ} → i < length s → n ≡ getD s i 0 → Puts x at (digits 16 2 n) y r
+      → (z : List ℕ) (q : ℕ) → Puts y r (bytesText (drop (i + 1) s)) z q → Puts x at (bytesText (drop i s)) z q
+  bytes-turn h e p z q o = rw (bytes-more s i h, ← e) (puts-then p o)
+
+  pub bytes-none : length s ≤ i → Puts x at (bytesText (drop i s)) x at
+  unfolding bytesText
+  bytes-none h = rw (drop-of-length-le s h) (puts-none x at)

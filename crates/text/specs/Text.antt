@@ -38,3 +38,8 @@ digits base (suc k) n = digits base k (n / base) ++ (character (n % base) ∷ []
 -- a space and the digits
 unfoldable pub number : ℕ → ℕ → ℕ → List ℕ
 number base k n = 0x20 ∷ digits base k n
+
+-- bytes as two hexadecimal digits each
+unfoldable pub bytesText : List ℕ → List ℕ
+bytesText [] = []
+bytesText (b ∷ s) = digits 16 2 b ++ bytesText s

@@ -1,8 +1,8 @@
 // Text into a lent area: bytes at a place, and numbers in digits. No knowledge of disks.
 ghost use mathlib.Core.Path.{_≡_};
-ghost use Prim.Native.Nat.{_+_, _<_, _≤_};
+ghost use Prim.Native.Nat.{_+_, _*_, _<_, _≤_};
 ghost use lib.ListN.{length};
-ghost use Rattle.text.specs.Text.{Puts, digits, number};
+ghost use Rattle.text.specs.Text.{Puts, digits, number, bytesText};
 ghost use Rattle.text.specs.Text as Text;
 
 // The character of a digit.
@@ -58,4 +58,19 @@ pub fn put_number(to: &mut [u8], at: usize, base: usize, k: usize, n: usize) -> 
 {
     to[at] = b' ';
     put_digits(to, at + 1, base, k, n)
+}
+
+// Bytes as two hexadecimal digits each; the place behind them.
+pub fn put_bytes(to: &mut [u8], at: usize, s: &[u8]) -> usize
+    requires { ⌜ at + length (now s) * 2 ≤ length (now to) ⌝ }
+    ensures { λ r. ⌜ Puts (now (to .entry)) at (bytesText (now (s .entry))) (now (to .exit)) r ⌝ }
+    ensures { λ r. ⌜ r ≡ at + length (now (s .entry)) * 2 ⌝ }
+{
+    let mut next = at;
+    let mut from = 0;
+    while from < s.len() {
+        next = put_digits(to, next, 16, 2, base::byte(s, from));
+        from += 1;
+    }
+    next
 }

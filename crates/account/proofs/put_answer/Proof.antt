@@ -18,7 +18,7 @@ same-length c = search needs
 
 returns : tie.Need-returns
 unfolding answerText
-returns c = (answered _ _ _ (c .before .before .before .before .before .r .given .1) (c .before .before .put-refusal .ensures .0) refl, search needs)
+returns c = (answered _ _ _ _ (c .before .before .before .before .before .r .given .1) (c .before .before .put-refusal .ensures .0) refl, search needs)
 
 enum-told : tie.Need-enum-told
 enum-told c = search needs
@@ -31,7 +31,7 @@ same-length-2 c = search needs
 
 returns-2 : tie.Need-returns-2
 unfolding answerText
-returns-2 c = (answered _ _ _ (c .before .before .before .before .enum-told .given .1) (c .before .before .put-action .ensures .0) refl, search needs)
+returns-2 c = (answered _ _ _ _ (c .before .before .before .before .enum-told .given .1) (c .before .before .put-action .ensures .0) refl, search needs)
 
 enum-told-2 : tie.Need-enum-told-2
 enum-told-2 c = search needs
@@ -44,7 +44,7 @@ same-length-3 c = search needs
 
 returns-3 : tie.Need-returns-3
 unfolding answerText
-returns-3 c = (answered _ _ _ (c .before .before .before .before .enum-told2 .given .1) (c .before .before .put-action2 .ensures .0) refl, search needs)
+returns-3 c = (answered _ _ _ _ (c .before .before .before .before .enum-told2 .given .1) (c .before .before .put-action2 .ensures .0) refl, search needs)
 
 enum-told-3 : tie.Need-enum-told-3
 enum-told-3 c = search needs
@@ -57,7 +57,7 @@ same-length-4 c = search needs
 
 returns-4 : tie.Need-returns-4
 unfolding answerText
-returns-4 c = (answered _ _ _ (c .before .before .before .before .enum-told3 .given .1) (c .before .before .put-action3 .ensures .0) refl, search needs)
+returns-4 c = (answered _ _ _ _ (c .before .before .before .before .enum-told3 .given .1) (c .before .before .put-action3 .ensures .0) refl, search needs)
 
 enum-told-4 : tie.Need-enum-told-4
 enum-told-4 c = search needs
@@ -73,7 +73,7 @@ same-length-5 c = search needs
 
 returns-5 : tie.Need-returns-5
 unfolding answerText
-returns-5 c = (answered _ _ _ (c .before .before .before .before .before .before .before .before .enum-told4 .given .1) (puts-then (c .before .before .before .before .before .before .put-action4 .ensures .0) (c .before .before .put-correction .ensures .0)) refl, search needs)
+returns-5 c = (answered _ _ _ _ (c .before .before .before .before .before .before .before .before .enum-told4 .given .1) (puts-then (c .before .before .before .before .before .before .put-action4 .ensures .0) (c .before .before .put-correction .ensures .0)) refl, search needs)
 
 enum-known-r-2 : tie.Need-enum-known-r-2
 enum-known-r-2 c = search needs
@@ -86,7 +86,7 @@ same-length-6 c = search needs
 
 returns-6 : tie.Need-returns-6
 unfolding answerText
-returns-6 c = (answered _ _ _ (c .before .before .before .before .before .r2 .given .1) (c .before .before .put-finished .ensures .0) refl, search needs)
+returns-6 c = (answered _ _ _ _ (c .before .before .before .before .before .r2 .given .1) (c .before .before .put-finished .ensures .0) refl, search needs)
 
 enum-known-r-3 : tie.Need-enum-known-r-3
 enum-known-r-3 c = search needs
@@ -99,7 +99,7 @@ same-length-7 c = search needs
 
 returns-7 : tie.Need-returns-7
 unfolding answerText
-returns-7 c = (answered _ _ _ (c .before .before .before .before .before .r3 .given .1) (c .before .before .put-restart .ensures .0) refl, search needs)
+returns-7 c = (answered _ _ _ _ (c .before .before .before .before .before .r3 .given .1) (c .before .before .put-restart .ensures .0) refl, search needs)
 
 pub put-answer-spec : {M : Type 1} → statement M
 put-answer-spec =

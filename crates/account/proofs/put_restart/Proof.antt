@@ -31,7 +31,7 @@ unfolding ascii
 returns c =
     let third = c .before .before .before .before .before .before .before in
     let second = third .before .before .before .before in (
-      restart-put _ _ _ _ (second .before .before .before .kind-index .ensures) (second .before .before .used-in .ensures .0) (second .put-action .ensures .0)
+      restart-put _ _ _ _ _ (second .before .before .before .kind-index .ensures) (second .before .before .used-in .ensures .0) (second .put-action .ensures .0)
           (third .put-mended .ensures .0) (c .before .before .put-ccws .ensures .0),
       search needs,
     )

@@ -13,14 +13,14 @@ use Rattle.listing.proofs.put_ccws.Statement.{statement}
 use Rattle.listing.proofs.put_ccws.Tie as tie
 
 abbrev Inv-loop : tie.InvT-loop
-Inv-loop out₀ at label origin s n next₀ i₀ out next i =
+Inv-loop out₀ at label origin s arguments n next₀ i₀ out next i =
     (length out ≡ length out₀)
     × (i ≤ n)
-    × (next ≤ at + i * 639)
-    × ((z : List ℕ) (q : ℕ) → Puts out next (each (n - i) i (slotLine label origin s)) z q → Puts out₀ at (ccwLines label origin s n) z q)
+    × (next ≤ at + i * 682)
+    × ((z : List ℕ) (q : ℕ) → Puts out next (each (n - i) i (slotLine label origin s arguments)) z q → Puts out₀ at (ccwLines label origin s arguments n) z q)
 
 abbrev μ-loop : tie.MeasureT-loop
-μ-loop out₀ at label origin s n next₀ i₀ out next i = n - i
+μ-loop out₀ at label origin s arguments n next₀ i₀ out next i = n - i
 
 loop-holds : tie.Need-loop-holds Inv-loop μ-loop
 unfolding ccwLines

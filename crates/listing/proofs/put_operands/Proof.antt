@@ -26,25 +26,18 @@ put-number-requires-2 c κs = search needs
 put-flags-requires : tie.Need-put-flags-requires
 put-flags-requires c κs = search needs
 
-slice-aggregate-put-3 : tie.Need-slice-aggregate-put-3
-slice-aggregate-put-3 c = search needs
-
-put-requires-3 : tie.Need-put-requires-3
-put-requires-3 c κs = search needs
-
 same-length : tie.Need-same-length
 same-length c = search needs
 
 returns : tie.Need-returns
 unfolding ascii
 returns c =
-    let flags = c .before .before .before .before .before .before .before in
-    let count = flags .before .before .before .before in
+    let count = c .before .before .before .before .before .before in
     let comma = count .before .before .before .before in
     let address = comma .before .before .before .before .before in
     let name = address .before .before .before .before in (
       operands-put _ (name .put .ensures .0) (address .put-number .ensures .0) (comma .put2 .ensures .0) (count .put-number2 .ensures .0)
-          (flags .put-flags .ensures .0) (c .before .before .put3 .ensures .0),
+          (c .before .before .put-flags .ensures .0),
       search needs,
     )
 
@@ -59,7 +52,5 @@ put-operands-spec =
     put-requires-2
     put-number-requires-2
     put-flags-requires
-    slice-aggregate-put-3
-    put-requires-3
     same-length
     returns)

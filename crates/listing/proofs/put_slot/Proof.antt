@@ -20,7 +20,7 @@ enum-told : tie.Need-enum-told
 enum-told c = search needs
 
 returns : tie.Need-returns
-returns c = (slot-none _ _ _ _ _ (c .before .before .fetch .ensures .0) _ _ (c .enum-told .given .1), search needs)
+returns c = (slot-none _ _ _ _ _ _ (c .before .before .fetch .ensures .0) _ _ (c .enum-told .given .1), search needs)
 
 add-put-ccw : tie.Need-add-put-ccw
 add-put-ccw c = search needs
@@ -34,7 +34,7 @@ same-length c = search needs
 returns-2 : tie.Need-returns-2
 returns-2 c =
     let ccw = c .before .before .before .before .before in (
-      slot-put _ _ _ _ _ (ccw .before .before .fetch .ensures .0) (ccw .c .given .1) (c .before .before .put-ccw .ensures .0),
+      slot-put _ _ _ _ _ _ (ccw .before .before .fetch .ensures .0) (ccw .c .given .1) (c .before .before .put-ccw .ensures .0),
       search needs,
     )
 

@@ -7,7 +7,8 @@ use lib.ListN.{length}
 use Rattle.text.specs.Text.{Puts}
 use Rattle.words.specs.Each.{each}
 use Rattle.words.proofs.Each.{each-start, each-turn, each-none}
-use Rattle.sensed.specs.Sensed.{senseLine, senseLines}
+use Rattle.sensed.specs.Sensed.{senseLine}
+use Rattle.sensed.proofs.Lines.{lines-put}
 use borrow.Author.Needs.{needs}
 use Rattle.sensed.proofs.put_sense.Statement.{statement}
 use Rattle.sensed.proofs.put_sense.Tie as tie
@@ -17,13 +18,12 @@ Inv-loop out₀ at sense next₀ i₀ out next i =
     (length out ≡ length out₀)
     × (i ≤ 24)
     × (next ≤ at + i * 76)
-    × ((z : List ℕ) (q : ℕ) → Puts out next (each (24 - i) i (senseLine sense)) z q → Puts out₀ at (senseLines sense) z q)
+    × ((z : List ℕ) (q : ℕ) → Puts out next (each (24 - i) i (senseLine sense)) z q → Puts out₀ at (each 24 0 (senseLine sense)) z q)
 
 abbrev μ-loop : tie.MeasureT-loop
 μ-loop out₀ at sense next₀ i₀ out next i = 24 - i
 
 loop-holds : tie.Need-loop-holds Inv-loop μ-loop
-unfolding senseLines
 loop-holds c = (search needs, search needs, search needs, λ z q p. each-start 24 _ p)
 
 put-sense-bit-requires : tie.Need-put-sense-bit-requires Inv-loop μ-loop
@@ -45,11 +45,17 @@ loop-again c =
       λ z q p. at-loop .loop .inv .3 z q (each-turn 24 _ _ (call .before .before .loop-test .taken) (call .put-sense-bit .ensures .0) z q p),
     )
 
+put-truncation-requires : tie.Need-put-truncation-requires Inv-loop μ-loop
+put-truncation-requires c κs = search needs
+
 same-length : tie.Need-same-length Inv-loop μ-loop
 same-length c = search needs
 
 returns : tie.Need-returns Inv-loop μ-loop
-returns c = (c .before .loop .inv .3 _ _ (each-none 24 _ _ (c .loop-test .left)), search needs)
+returns c =
+    let test = c .before .before .before .before in
+    let bits = test .before .loop .inv .3 _ _ (each-none 24 _ _ (test .loop-test .left)) in
+    (lines-put _ bits (c .before .before .put-truncation .ensures .0), search needs)
 
 pub put-sense-spec : {M : Type 1} → statement M
 put-sense-spec =
@@ -62,5 +68,6 @@ put-sense-spec =
     add-i
     loop-less
     loop-again
+    put-truncation-requires
     same-length
     returns)

@@ -56,6 +56,9 @@ part-put-ccws-start c = search needs
 part-put-ccws-end : tie.Need-part-put-ccws-end
 part-put-ccws-end c = search needs
 
+slice-aggregate-put-ccws-2 : tie.Need-slice-aggregate-put-ccws-2
+slice-aggregate-put-ccws-2 c = search needs
+
 put-ccws-requires : tie.Need-put-ccws-requires
 put-ccws-requires c κs = search needs
 
@@ -74,6 +77,9 @@ slice-aggregate-put-reported c = search needs
 slice-aggregate-put-reported-2 : tie.Need-slice-aggregate-put-reported-2
 slice-aggregate-put-reported-2 c = search needs
 
+slice-aggregate-put-reported-3 : tie.Need-slice-aggregate-put-reported-3
+slice-aggregate-put-reported-3 c = search needs
+
 put-reported-requires : tie.Need-put-reported-requires
 put-reported-requires c κs = search needs
 
@@ -83,8 +89,8 @@ same-length c = search needs
 returns : tie.Need-returns
 unfolding ascii
 returns c =
-    let ccws = c .before .before .before .before .before .before .before .before .before in
-    let call = ccws .before .before .before .before .before .before .before in
+    let ccws = c .before .before .before .before .before .before .before .before .before .before in
+    let call = ccws .before .before .before .before .before .before .before .before in
     let start = call .before .before .before .before .before .before .before .before .before in
     let a = start .args in (
       parts-put (a .input .now) (a .p) _ _ _ _ (call .recover .ensures) (ccws .put-ccws .ensures .0) (c .before .before .put-reported .ensures .0),
@@ -112,12 +118,14 @@ put-parts-spec =
     sub-put-ccws
     part-put-ccws-start
     part-put-ccws-end
+    slice-aggregate-put-ccws-2
     put-ccws-requires
     sub-put-reported
     part-put-reported-start
     part-put-reported-end
     slice-aggregate-put-reported
     slice-aggregate-put-reported-2
+    slice-aggregate-put-reported-3
     put-reported-requires
     same-length
     returns)

@@ -38,7 +38,7 @@ part-put-told-start c = search needs
 
 part-put-told-end : tie.Need-part-put-told-end
 part-put-told-end c =
-    let a = c .before .before .before .before .before .before .before .before .args in
+    let a = c .before .before .before .before .before .before .before .before .before .args in
     let n = long-report (a .report .now) (c .before .enum-told .given .1) (c .before .before .before .read .ensures .1) in
     omega (arith, n)
 

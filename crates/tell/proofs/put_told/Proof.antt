@@ -20,7 +20,7 @@ returns : tie.Need-returns
 returns c =
     let second = c .before .before .before .before .before .before in
     let first = second .before .before .before .before in (
-      told-put _ _ _ _ (first .put-sense .ensures .0) (second .put-row .ensures .0) (c .before .before .put-answer .ensures .0),
+      told-put _ _ _ _ _ (first .put-sense .ensures .0) (second .put-row .ensures .0) (c .before .before .put-answer .ensures .0),
       search needs,
     )
 

@@ -1,26 +1,25 @@
--- `lines::put_bytes` meets its contract. Invariant: the digits that are left, put where the loop stands, make the whole. Measure: the bytes
+-- `text::put_bytes` meets its contract. Invariant: the digits that are left, put where the loop stands, make the whole. Measure: the bytes
 -- left. Assumes nothing.
 use Prim.Native.Nat.{ℕ, _+_, _-_, _*_, _≤_}
 use mathlib.Core.Path.{_≡_}
 use mathlib.Core.List.{List}
 use lib.ListN.{length, drop}
-use Rattle.text.specs.Text.{Puts}
-use Rattle.lines.specs.Lines.{bytesText}
-use Rattle.lines.proofs.Texts.{bytes-turn, bytes-none}
+use Rattle.text.specs.Text.{Puts, bytesText}
+use Rattle.text.proofs.Written.{bytes-turn, bytes-none}
 use borrow.Author.Needs.{needs}
 use native.Mathlib.Omega.{arith}
-use Rattle.lines.proofs.put_bytes.Statement.{statement}
-use Rattle.lines.proofs.put_bytes.Tie as tie
+use Rattle.text.proofs.put_bytes.Statement.{statement}
+use Rattle.text.proofs.put_bytes.Tie as tie
 
 abbrev Inv-loop : tie.InvT-loop
-Inv-loop out₀ at s next₀ i₀ out next i =
-    (length out ≡ length out₀)
-    × (i ≤ length s)
-    × (next ≡ at + i * 2)
-    × ((z : List ℕ) (q : ℕ) → Puts out next (bytesText (drop i s)) z q → Puts out₀ at (bytesText s) z q)
+Inv-loop to₀ at s next₀ from₀ to next from =
+    (length to ≡ length to₀)
+    × (from ≤ length s)
+    × (next ≡ at + from * 2)
+    × ((z : List ℕ) (q : ℕ) → Puts to next (bytesText (drop from s)) z q → Puts to₀ at (bytesText s) z q)
 
 abbrev μ-loop : tie.MeasureT-loop
-μ-loop out₀ at s next₀ i₀ out next i = length s - i
+μ-loop to₀ at s next₀ from₀ to next from = length s - from
 
 loop-holds : tie.Need-loop-holds Inv-loop μ-loop
 loop-holds c = (search needs, search needs, search needs, λ z q p. p)
@@ -31,8 +30,8 @@ byte-requires c κs = search needs
 put-digits-requires : tie.Need-put-digits-requires Inv-loop μ-loop
 put-digits-requires c κs = search needs
 
-add-i : tie.Need-add-i Inv-loop μ-loop
-add-i c = search needs
+add-from : tie.Need-add-from Inv-loop μ-loop
+add-from c = search needs
 
 loop-less : tie.Need-loop-less Inv-loop μ-loop
 loop-less c = search needs
@@ -62,7 +61,7 @@ put-bytes-spec =
     loop-holds
     byte-requires
     put-digits-requires
-    add-i
+    add-from
     loop-less
     loop-again
     same-length
