@@ -7,6 +7,7 @@ use mathlib.Core.Path.{_≡_, refl}
 use mathlib.Core.Bool.{true}
 use mathlib.Core.List.{List, [], _∷_, _++_}
 use Rattle.base.specs.Choice.{pick}
+use Rattle.status.specs.Status.{cswText}
 use Rattle.text.specs.Text.{Puts, ascii, number}
 use Rattle.text.proofs.Written.{puts-then}
 use Rattle.words.specs.Words.{item, roomAfter, shortFrom, short}
@@ -25,11 +26,9 @@ pub action-put : {x y₁ y : List ℕ} {at r₁ r : ℕ} (i : ℕ) → Puts x at
 unfolding actionLine ascii
 action-put i a b = puts-then a b
 
-pub csw-put : {x y₁ y₂ y₃ y₄ y₅ y : List ℕ} {at r₁ r₂ r₃ r₄ r₅ r u v : ℕ} (w : Csw) → u ≡ w .unit → v ≡ w .channel
-    → Puts x at (ascii "csw") y₁ r₁ → Puts y₁ r₁ (number 16 6 (w .address)) y₂ r₂ → Puts y₂ r₂ (number 16 2 u) y₃ r₃ → Puts y₃ r₃ (number 16 2 v) y₄ r₄
-    → Puts y₄ r₄ (number 16 4 (w .count)) y₅ r₅ → Puts y₅ r₅ (ascii "\n") y r → Puts x at (cswLine w) y r
+pub csw-put : {x y₁ y : List ℕ} {at r₁ r : ℕ} (w : Csw) → Puts x at (ascii "csw") y₁ r₁ → Puts y₁ r₁ (cswText w) y r → Puts x at (cswLine w) y r
 unfolding cswLine
-csw-put w eu ev a b c d e f = rw (← eu, ← ev) (puts-then (puts-then (puts-then (puts-then (puts-then a b) c) d) e) f)
+csw-put w a b = puts-then a b
 
 pub restart-put : {x y₁ y₂ y : List ℕ} {at r₁ r₂ r i n : ℕ} (k : Kind) (sense st p a : List ℕ) → i ≡ kindIndex k → n ≡ usedIn p
     → Puts x at (actionLine i) y₁ r₁ → Puts y₁ r₁ (mendedText k sense st) y₂ r₂ → Puts y₂ r₂ (ccwLines (ascii "restart") 0x1000 p a n) y r

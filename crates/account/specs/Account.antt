@@ -1,7 +1,8 @@
 -- Lines of what recovery answers.
 use Prim.Native.Nat.{ℕ}
 use mathlib.Core.List.{List, [], _++_}
-use Rattle.text.specs.Text.{ascii, number}
+use Rattle.text.specs.Text.{ascii}
+use Rattle.status.specs.Status.{cswText}
 use Rattle.words.specs.Words.{item}
 use Rattle.channel.specs.declared.Csw.{Csw}
 use Rattle.action.specs.declared.Kind.{Kind}
@@ -21,7 +22,7 @@ actionLine i = item i actionTexts ++ ascii "\n"
 
 -- ending address, unit status, channel status and count left
 unfoldable pub cswLine : Csw → List ℕ
-cswLine w = ascii "csw" ++ number 16 6 (w .address) ++ number 16 2 (w .unit) ++ number 16 2 (w .channel) ++ number 16 4 (w .count) ++ ascii "\n"
+cswLine w = ascii "csw" ++ cswText w
 
 -- ---- a restart
 

@@ -29,12 +29,8 @@ fn put_csw(out: &mut [u8], at: usize, w: Csw) -> usize
     ensures { λ r. ⌜ Puts (now (out .entry)) at (cswLine w) (now (out .exit)) r ⌝ }
     ensures { λ r. ⌜ r ≡ at + 22 ⌝ }
 {
-    let address = text::put(out, at, b"csw");
-    let unit = text::put_number(out, address, 16, 6, w.address);
-    let channel = text::put_number(out, unit, 16, 2, base::wide(w.unit));
-    let count = text::put_number(out, channel, 16, 2, base::wide(w.channel));
-    let end = text::put_number(out, count, 16, 4, w.count);
-    text::put(out, end, b"\n")
+    let next = text::put(out, at, b"csw");
+    status::put_csw(out, next, w)
 }
 
 fn kind_index(k: Kind) -> usize

@@ -1,7 +1,7 @@
 -- The lines, from the texts that the code puts one behind the other.
 --   five-a-put, five-put, record-put, recovery-put     a recovery's line
 --   recoveries-turn, recoveries-none                   the lines of all, one turn of the loop and its end
---   ended-put, limited-put, stopped-put, csw-put, end-put   the end
+--   ended-put, limited-put, stopped-put, end-put       the end
 --   storage-put, short-put                             storage
 --   made-within                                        how many recoveries there are at most
 --   refusal-put, refused-put, over-put                 the answer
@@ -20,15 +20,15 @@ use Rattle.base.proofs.Bytes.{be16-drop}
 use Rattle.text.specs.Text.{Puts, ascii, number, bytesText}
 use Rattle.text.proofs.Written.{puts-then, puts-none}
 use Rattle.questions.specs.declared.Question.{Question}
-use Rattle.questions.specs.Number.{numberOf}
 use Rattle.channel.specs.declared.Csw.{Csw}
+use Rattle.status.specs.Status.{cswText, refusedText}
 use Rattle.whole.specs.declared.How.{How}
 use Rattle.whole.specs.declared.How.the-variants.{Ended, Limited, Stop}
 use Rattle.whole.specs.declared.Over as Code
 use Rattle.whole.specs.declared.Outcome.{Outcome}
 use Rattle.whole.specs.declared.Outcome.the-variants.{Refused, Over}
 use Rattle.whole.specs.Reading.{MadeWithin}
-use Rattle.lines.specs.Lines.{actionName, recordText, recoveryLine, recoveryLines, endName, cswText, endLine, storageLine, refusalLine, answerText}
+use Rattle.lines.specs.Lines.{actionName, recordText, recoveryLine, recoveryLines, endName, endLine, storageLine, refusalLine, answerText}
 
 -- ---- a recovery's line
 
@@ -92,12 +92,6 @@ module _ {x y : List ℕ} {at r : ℕ} {how : How} where
   unfolding endName ascii
   stopped-put e k p o = rw (e, ← k) (puts-then p o)
 
-pub csw-put : {x y₁ y₂ y₃ y₄ y : List ℕ} {at r₁ r₂ r₃ r₄ r u v : ℕ} (w : Csw) → u ≡ w .unit → v ≡ w .channel
-    → Puts x at (number 16 6 (w .address)) y₁ r₁ → Puts y₁ r₁ (number 16 2 u) y₂ r₂ → Puts y₂ r₂ (number 16 2 v) y₃ r₃
-    → Puts y₃ r₃ (number 16 4 (w .count)) y₄ r₄ → Puts y₄ r₄ (0x0a ∷ []) y r → Puts x at (cswText w) y r
-unfolding cswText ascii
-csw-put w eu ev a b c d e = rw (← eu, ← ev) (puts-then (puts-then (puts-then (puts-then a b) c) d) e)
-
 pub end-put : {x y z : List ℕ} {at r q : ℕ} (how : How) (w : Csw) → Puts x at (endName how) y r → Puts y r (cswText w) z q → Puts x at (endLine how w) z q
 unfolding endLine
 end-put how w p o = puts-then p o
@@ -118,11 +112,9 @@ module _ {x y z : List ℕ} {at r q : ℕ} (st : List ℕ) where
 pub made-within : (n : ℕ) {o : Outcome} {e : Code.Over} → o ≡ Over e → MadeWithin n o → e .made ≤ n
 made-within n q h = rw q at h
 
-pub refusal-put : {x y₁ y₂ y : List ℕ} {at r₁ r₂ r k n : ℕ} (q : Question) → k ≡ numberOf q → n ≡ k
-    → Puts x at (0x72 ∷ 0x65 ∷ 0x66 ∷ 0x75 ∷ 0x73 ∷ 0x65 ∷ 0x64 ∷ []) y₁ r₁ → Puts y₁ r₁ (number 10 1 n) y₂ r₂ → Puts y₂ r₂ (0x0a ∷ []) y r
-    → Puts x at (refusalLine q) y r
+pub refusal-put : {x y₁ y : List ℕ} {at r₁ r : ℕ} (q : Question) → Puts x at (refusedText q) y₁ r₁ → Puts y₁ r₁ (0x0a ∷ []) y r → Puts x at (refusalLine q) y r
 unfolding refusalLine ascii
-refusal-put q ek en a b c = rw (← ek, ← en) (puts-then (puts-then a b) c)
+refusal-put q a b = puts-then a b
 
 module _ {x y : List ℕ} {at r : ℕ} (st l : List ℕ) where
   pub refused-put : {o : Outcome} {q : Question} → o ≡ Refused q → Puts x at (refusalLine q) y r → Puts x at (answerText o st l) y r

@@ -7,8 +7,8 @@ use Rattle.base.specs.Choice.{pick}
 use Rattle.base.specs.Bytes.{be16At}
 use Rattle.text.specs.Text.{ascii, number, bytesText}
 use Rattle.questions.specs.declared.Question.{Question}
-use Rattle.questions.specs.Number.{numberOf}
 use Rattle.channel.specs.declared.Csw.{Csw}
+use Rattle.status.specs.Status.{cswText, refusedText}
 use Rattle.whole.specs.declared.How.{How}
 use Rattle.whole.specs.declared.How.the-variants.{Ended, Limited, Stop}
 use Rattle.whole.specs.declared.Outcome.{Outcome}
@@ -41,9 +41,6 @@ endName Ended = ascii "end"
 endName Limited = ascii "limit"
 endName (Stop n) = ascii "stopped" ++ number 10 1 n
 
-unfoldable pub cswText : Csw → List ℕ
-cswText w = number 16 6 (w .address) ++ number 16 2 (w .unit) ++ number 16 2 (w .channel) ++ number 16 4 (w .count) ++ ascii "\n"
-
 -- "a line with ending address, unit status, channel status and count left in hexadecimal"
 unfoldable pub endLine : How → Csw → List ℕ
 endLine h w = endName h ++ cswText w
@@ -62,7 +59,7 @@ room = 86077
 
 -- "a refusal prints only refused and its number"
 unfoldable pub refusalLine : Question → List ℕ
-refusalLine q = ascii "refused" ++ number 10 1 (numberOf q) ++ ascii "\n"
+refusalLine q = refusedText q ++ ascii "\n"
 
 -- the lines of an answer, with storage and the list of recoveries behind it
 unfoldable pub answerText : Outcome → (storage list : List ℕ) → List ℕ

@@ -9,7 +9,7 @@ ghost use Prim.Native.Nat.{_+_, _*_, _-_, _≤_};
 ghost use lib.ListN.{length, drop};
 ghost use Rattle.text.specs.Text.{Puts};
 ghost use Rattle.whole.specs.Reading.{MadeWithin};
-ghost use Rattle.lines.specs.Lines.{room, actionName, recordText, recoveryLine, recoveryLines, endName, cswText, endLine, storageLine, refusalLine, answerText};
+ghost use Rattle.lines.specs.Lines.{room, actionName, recordText, recoveryLine, recoveryLines, endName, endLine, storageLine, refusalLine, answerText};
 
 // The bytes of the longest answer: 4,096 recoveries of 21, an end of 28, storage of 33.
 pub const ROOM: usize = 86077;
@@ -98,26 +98,13 @@ fn put_how(out: &mut [u8], at: usize, how: How) -> usize
     }
 }
 
-// Ending address, unit status, channel status and count left, and the line's end.
-fn put_csw(out: &mut [u8], at: usize, w: Csw) -> usize
-    requires { ⌜ at + 19 ≤ length (now out) ⌝ }
-    ensures { λ r. ⌜ Puts (now (out .entry)) at (cswText w) (now (out .exit)) r ⌝ }
-    ensures { λ r. ⌜ r ≡ at + 19 ⌝ }
-{
-    let unit = text::put_number(out, at, 16, 6, w.address);
-    let channel = text::put_number(out, unit, 16, 2, base::wide(w.unit));
-    let count = text::put_number(out, channel, 16, 2, base::wide(w.channel));
-    let end = text::put_number(out, count, 16, 4, w.count);
-    text::put(out, end, b"\n")
-}
-
 fn put_end(out: &mut [u8], at: usize, how: How, w: Csw) -> usize
     requires { ⌜ at + 28 ≤ length (now out) ⌝ }
     ensures { λ r. ⌜ Puts (now (out .entry)) at (endLine how w) (now (out .exit)) r ⌝ }
     ensures { λ r. ⌜ r ≤ at + 28 ⌝ }
 {
     let next = put_how(out, at, how);
-    put_csw(out, next, w)
+    status::put_csw(out, next, w)
 }
 
 // ---- storage
@@ -144,8 +131,7 @@ pub fn put_refusal(out: &mut [u8], at: usize, q: Question) -> usize
     ensures { λ r. ⌜ Puts (now (out .entry)) at (refusalLine q) (now (out .exit)) r ⌝ }
     ensures { λ r. ⌜ r ≡ at + 10 ⌝ }
 {
-    let name = text::put(out, at, b"refused");
-    let end = text::put_number(out, name, 10, 1, base::wide(questions::number(q)));
+    let end = status::put_refused(out, at, q);
     text::put(out, end, b"\n")
 }
 

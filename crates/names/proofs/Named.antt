@@ -13,6 +13,7 @@ use borrow.Author.Tests.{eq-eqb, ne-eqb}
 use Rattle.base.specs.Choice.{pick}
 use Rattle.base.specs.Bits.{bitOn}
 use Rattle.text.specs.Text.{Puts, ascii, number}
+use Rattle.status.specs.Status.{refusedText}
 use Rattle.text.proofs.Written.{puts-then, puts-none}
 use Rattle.words.specs.Words.{item, roomAfter, shortFrom, short}
 use Rattle.questions.specs.declared.Question.{Question}
@@ -97,8 +98,8 @@ pub flag-off : (x : List ℕ) (at flags k : ℕ) → bitOn k flags ≡ false →
 unfolding flagText pick
 flag-off x at flags k h = rw h (puts-none x at)
 
-pub refusal-put : {x y₁ y₂ y₃ y₄ y : List ℕ} {at r₁ r₂ r₃ r₄ r k n : ℕ} (q : Question) → k ≡ numberOf q → n ≡ k
-    → Puts x at (0x72 ∷ 0x65 ∷ 0x66 ∷ 0x75 ∷ 0x73 ∷ 0x65 ∷ 0x64 ∷ []) y₁ r₁ → Puts y₁ r₁ (number 10 1 n) y₂ r₂ → Puts y₂ r₂ (0x3a ∷ 0x20 ∷ []) y₃ r₃
-    → Puts y₃ r₃ (item n questionTexts) y₄ r₄ → Puts y₄ r₄ (0x0a ∷ []) y r → Puts x at (refusalLine q) y r
+pub refusal-put : {x y₁ y₂ y₃ y : List ℕ} {at r₁ r₂ r₃ r k n : ℕ} (q : Question) → k ≡ numberOf q → n ≡ k
+    → Puts x at (refusedText q) y₁ r₁ → Puts y₁ r₁ (0x3a ∷ 0x20 ∷ []) y₂ r₂ → Puts y₂ r₂ (item n questionTexts) y₃ r₃ → Puts y₃ r₃ (0x0a ∷ []) y r
+    → Puts x at (refusalLine q) y r
 unfolding refusalLine ascii
-refusal-put q ek en a b c d e = rw (← ek, ← en) (puts-then (puts-then (puts-then (puts-then a b) c) d) e)
+refusal-put q ek en a b c d = puts-then (puts-then (puts-then a b) (rw (en ∙ ek) at c)) d

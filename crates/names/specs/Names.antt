@@ -4,7 +4,8 @@ use mathlib.Core.List.{List, [], _++_}
 use lib.Dec.{eqb}
 use Rattle.base.specs.Choice.{pick}
 use Rattle.base.specs.Bits.{bitOn}
-use Rattle.text.specs.Text.{ascii, number}
+use Rattle.text.specs.Text.{ascii}
+use Rattle.status.specs.Status.{refusedText}
 use Rattle.words.specs.Words.{item}
 use Rattle.words.specs.Each.{each}
 use Rattle.questions.specs.declared.Question.{Question}
@@ -78,4 +79,4 @@ questionTexts = ascii "/are all areas and limits as they must be?/is the image w
 
 -- the number of a refusal, and its question
 unfoldable pub refusalLine : Question → List ℕ
-refusalLine q = ascii "refused" ++ number 10 1 (numberOf q) ++ ascii ": " ++ item (numberOf q) questionTexts ++ ascii "\n"
+refusalLine q = refusedText q ++ ascii ": " ++ item (numberOf q) questionTexts ++ ascii "\n"

@@ -131,8 +131,7 @@ pub fn put_refusal(out: &mut [u8], at: usize, q: Question) -> usize
     ensures { λ r. ⌜ r ≤ at + 76 ⌝ }
 {
     let n = base::wide(questions::number(q));
-    let name = text::put(out, at, b"refused");
-    let colon = text::put_number(out, name, 10, 1, n);
+    let colon = status::put_refused(out, at, q);
     let question = text::put(out, colon, b": ");
     let end = words::put_item(
         out,

@@ -12,20 +12,14 @@ number-requires c κs = search needs
 wide-requires : tie.Need-wide-requires
 wide-requires c κs = search needs
 
+put-refused-requires : tie.Need-put-refused-requires
+put-refused-requires c κs = search needs
+
 slice-aggregate-put : tie.Need-slice-aggregate-put
 slice-aggregate-put c = search needs
 
 put-requires : tie.Need-put-requires
 put-requires c κs = search needs
-
-put-number-requires : tie.Need-put-number-requires
-put-number-requires c κs = search needs
-
-slice-aggregate-put-2 : tie.Need-slice-aggregate-put-2
-slice-aggregate-put-2 c = search needs
-
-put-requires-2 : tie.Need-put-requires-2
-put-requires-2 c κs = search needs
 
 slice-aggregate-put-item : tie.Need-slice-aggregate-put-item
 slice-aggregate-put-item c = search needs
@@ -34,11 +28,11 @@ put-item-requires : tie.Need-put-item-requires
 unfolding questionTexts ascii
 put-item-requires c κs = (search needs, questions-short)
 
-slice-aggregate-put-3 : tie.Need-slice-aggregate-put-3
-slice-aggregate-put-3 c = search needs
+slice-aggregate-put-2 : tie.Need-slice-aggregate-put-2
+slice-aggregate-put-2 c = search needs
 
-put-requires-3 : tie.Need-put-requires-3
-put-requires-3 c κs = search needs
+put-requires-2 : tie.Need-put-requires-2
+put-requires-2 c κs = search needs
 
 same-length : tie.Need-same-length
 same-length c = search needs
@@ -48,10 +42,9 @@ unfolding questionTexts ascii
 returns c =
     let question = c .before .before .before .before .before .before .before in
     let colon = question .before .before .before .before .before in
-    let digit = colon .before .before .before .before .before in
-    let name = digit .before .before .before .before in (
-      refusal-put _ (name .before .before .before .before .number .ensures) (name .before .before .before .wide .ensures .0) (name .put .ensures .0) (digit .put-number .ensures .0) (colon .put2 .ensures .0)
-          (question .put-item .ensures .0) (c .before .before .put3 .ensures .0),
+    let name = colon .before .before .before .before .before in (
+      refusal-put _ (name .before .before .before .number .ensures) (name .before .before .wide .ensures .0) (name .put-refused .ensures .0) (colon .put .ensures .0) (question .put-item .ensures .0)
+          (c .before .before .put2 .ensures .0),
       search needs,
     )
 
@@ -61,14 +54,12 @@ put-refusal-spec =
     (tie.spec
     number-requires
     wide-requires
+    put-refused-requires
     slice-aggregate-put
     put-requires
-    put-number-requires
-    slice-aggregate-put-2
-    put-requires-2
     slice-aggregate-put-item
     put-item-requires
-    slice-aggregate-put-3
-    put-requires-3
+    slice-aggregate-put-2
+    put-requires-2
     same-length
     returns)

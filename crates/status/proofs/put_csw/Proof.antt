@@ -1,8 +1,8 @@
--- `lines::put_csw` meets its contract: four numbers and a line end, one behind the other. Assumes nothing.
-use Rattle.lines.proofs.Texts.{csw-put}
+-- `status::put_csw` meets its contract: four numbers and a line end, one behind the other. Assumes nothing.
+use Rattle.status.proofs.Texts.{csw-put}
 use borrow.Author.Needs.{needs}
-use Rattle.lines.proofs.put_csw.Statement.{statement}
-use Rattle.lines.proofs.put_csw.Tie as tie
+use Rattle.status.proofs.put_csw.Statement.{statement}
+use Rattle.status.proofs.put_csw.Tie as tie
 
 put-number-requires : tie.Need-put-number-requires
 put-number-requires c κs = search needs
