@@ -16,7 +16,8 @@
  *   9  report and chain do not agree
  *
  * Areas: chain 8 to 2,048 bytes, a multiple of 8; arguments up to 4,096; storage and fault list up to 65,536; image up to 1,048,576;
- * extent 8; restart program 64; restart arguments 16; command limit 1 to 4,096.
+ * extent 8; restart program 64; restart arguments 16; command limit 1 to 4,096. An answer area has exactly GIRUVE_RUN_ANSWER,
+ * GIRUVE_RECOVERY_ANSWER or GIRUVE_READING_ANSWER bytes.
  */
 #ifndef GIRUVE_H
 #define GIRUVE_H
@@ -61,7 +62,8 @@ uint8_t giruve_check_restart_areas(size_t program, size_t restart_arguments);
 
 /*
  * A run of a chain: questions 1, 2 and 3, then 0 where it ended (a cut too) or GIRUVE_LIMIT. The answer: CSW 8, sense 24, whether a
- * file mask is set 1, the mask 1, address of the first CCW of a cut read 2 (0 where there is no cut).
+ * file mask is set 1, the mask 1, address of the first CCW of a cut read 2 (0 where there is no cut). A cut shows as unit check in the
+ * CSW with sense byte 0 = 08.
  */
 uint8_t giruve_run(const uint8_t *chain, size_t chain_length, const uint8_t *arguments, size_t arguments_length,
                    uint8_t *storage, size_t storage_length, const uint8_t *image, size_t image_length,

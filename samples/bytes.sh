@@ -1,4 +1,4 @@
 # For other scripts: the bytes that a sample's text stands for.
 input() {
-    printf "$(sed 's/#.*//' "$1" | tr -d ' \n' | sed 's/../\\x&/g')"
+    printf "$(sed 's/#.*//' "$1" | tr -d '[:space:]' | sed 's/../\\x&/g')"
 }

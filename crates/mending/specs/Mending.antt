@@ -14,7 +14,7 @@ restartLine sense = ascii "restart displacement" ++ number 10 5 (be24At sense 15
 unfoldable pub errorLine : List ℕ → List ℕ
 errorLine sense = ascii "error displacement" ++ number 10 5 (be16At sense 18) ++ ascii ", back from that end\n"
 
--- ---- the bytes of a storage of zeros that changed: those that are not 0 now
+-- ---- the bytes of a storage of zeros that changed: those that are not 0 behind it
 
 -- how many more may change behind the byte b, where n may
 unfoldable pub leftAfter : ℕ → ℕ → ℕ

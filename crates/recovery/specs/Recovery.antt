@@ -40,7 +40,7 @@ pub data Kind : Type 0 where
 -- What recovery answers. Areas that an answer does not name keep their bytes.
 pub data Recovery : Type 0 where
   refused : Question → Recovery
-  -- no recovery; the seek must not be made; the chain is to be run again
+  -- a permanent error; the condition goes back to the program, with no retry; the chain is to be run again
   actionOne actionTwo repeats : Recovery
   -- storage as corrected, and no more
   correctedOnly : List ℕ → Recovery

@@ -40,7 +40,7 @@ reportedOf s Ill = none
 
 -- ---- what is ensured
 
--- a report with no tries yet
+-- a report that says nothing of tries
 abbrev pub soFar : Csw → ℕ → FileMask → Seek → Code.Report
 soFar csw first mask seek = record { csw = csw; first = first; mask = mask; seek = seek; tries = 0 }
 
