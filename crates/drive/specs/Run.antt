@@ -4,12 +4,12 @@ use mathlib.Core.Bool.{Bool, false}
 use mathlib.Core.List.{List}
 use Rattle.base.specs.Choice.{pick, opt}
 use Rattle.faults.specs.Faults.{Fault}
-use Rattle.machine.specs.Machine.{Result, ended, run, notes}
+use Rattle.machine.specs.Machine.{Result, ended, run}
 use Rattle.channel.specs.declared.Location.{Location}
 use Rattle.channel.specs.declared.Csw.{Csw}
 use Rattle.channel.specs.Ccw.{Lent, isTic, fetch}
 use Rattle.drive.specs.Drive.{initial}
-use Rattle.drive.specs.Step.{cswAt, State, End, Cut, noSense, Setting, plan, step, Area, areaIn}
+use Rattle.drive.specs.Step.{cswAt, State, End, Cut, noSense, Setting, step}
 
 -- "A run starts at cylinder 0, head 0, at the index, with no mask."
 unfoldable pub start : Location → List ℕ → State
@@ -29,7 +29,3 @@ runFrom fs w n l st =
 -- "answers limit with its last CSW"
 unfoldable pub limitCsw : State → Csw
 limitCsw s = cswAt (s .last) 0x0c 0 (s .left)
-
--- the data areas that a run takes, in order
-unfoldable pub areasOf : List Fault → Setting → ℕ → State → List Area
-areasOf fs w n s = notes (step fs w) (λ t. areaIn fs (plan w t)) n s
