@@ -8,18 +8,18 @@ use Rattle.base.specs.Choice.{pick}
 use Rattle.questions.specs.declared.Question.the-variants as Question
 use Rattle.questions.specs.Number.{numberOf}
 use Rattle.trial.specs.declared.Trial.{Trial}
-use Rattle.trial.specs.Trial.{Called, refused, answered, Conclusion, calledOf}
+use Rattle.trial.specs.Trial.{Called, refused, answered, shownOf, Conclusion, calledOf}
 use Rattle.answer.specs.Answer.{answerBytes, endNumber}
 
 -- the refusing question's number; 10 for "limit", 0 for any other end
 unfoldable pub callNumber : Called → ℕ
 callNumber (refused q) = numberOf q
-callNumber (answered x) = endNumber x
+callNumber (answered x) = endNumber (shownOf x)
 
 -- the answer area: "A no answers its number and changes nothing."
 unfoldable pub answerAfter : List ℕ → Called → List ℕ
 answerAfter a (refused q) = a
-answerAfter a (answered x) = answerBytes x
+answerAfter a (answered x) = answerBytes (shownOf x)
 
 pub record Handed : Type 0 where
   pub number : ℕ

@@ -50,9 +50,10 @@ storageOf (limit s) = s .storage
 
 -- ---- the calls
 
+-- a refusal, or all that the run comes to
 pub data Called : Type 0 where
   refused : Question → Called
-  answered : Shown → Called
+  answered : Result State End Cut → Called
 
 -- What a call answers, and storage behind it.
 pub record Conclusion : Type 0 where
@@ -64,7 +65,7 @@ unfoldable pub refusal : List ℕ → Question → Conclusion
 refusal st q = record { answer = refused q; storage = st }
 
 unfoldable pub concluded : Result State End Cut → Conclusion
-concluded r = record { answer = answered (shownOf r); storage = storageOf r }
+concluded r = record { answer = answered r; storage = storageOf r }
 
 -- "2. Is the image well formed? 3. Is each fault well formed and its record in the image?" Then the run, with the faults of the list.
 unfoldable pub begin : Lent → (image faults : List ℕ) → ℕ → Location → List ℕ → Conclusion
@@ -102,7 +103,7 @@ restartCall chain arguments program restarts st image faults =
 -- an answer of the code, with storage behind it
 abbrev pub calledOf : Trial → List ℕ → Called
 calledOf (Trial.Refused q) st = refused q
-calledOf (Trial.Ran r) st = answered (shownOf (ranOf r st))
+calledOf (Trial.Ran r) st = answered (ranOf r st)
 
 abbrev pub conclusionOf : Trial → List ℕ → Conclusion
 conclusionOf t st = record { answer = calledOf t st; storage = st }
