@@ -15,7 +15,17 @@ use Rattle.mending.specs.Mending.{correctionText}
 
 -- the answers in words, a slash between each and the next
 unfoldable pub actionTexts : List ℕ
-actionTexts = ascii "action 1: permanent error, tell the operator/action 2: give the condition back to the program, no retry/repeat: run the chain again/action 5: storage is corrected, and no more: PCI fetch mode/action 5: storage is corrected, and the chain is finished/action 5: storage is corrected, go on behind the search/action 5A: storage is corrected, go on behind a read count/action 8: seek the next cylinder, repeat the interrupted CCW/action 10: make the user's seek, go on behind it/action 10A: seek the next track, repeat the interrupted CCW"
+actionTexts =
+    ascii "action 1: permanent error, tell the operator"
+    ++ ascii "/action 2: give the condition back to the program, no retry"
+    ++ ascii "/repeat: run the chain again"
+    ++ ascii "/action 5: storage is corrected, and no more: PCI fetch mode"
+    ++ ascii "/action 5: storage is corrected, and the chain is finished"
+    ++ ascii "/action 5: storage is corrected, go on behind the search"
+    ++ ascii "/action 5A: storage is corrected, go on behind a read count"
+    ++ ascii "/action 8: seek the next cylinder, repeat the interrupted CCW"
+    ++ ascii "/action 10: make the user's seek, go on behind it"
+    ++ ascii "/action 10A: seek the next track, repeat the interrupted CCW"
 
 unfoldable pub actionLine : ℕ → List ℕ
 actionLine i = item i actionTexts ++ ascii "\n"

@@ -20,7 +20,9 @@ use Rattle.drive.specs.Command.{commandOf}
 -- ---- the command of a CCW
 
 unfoldable pub commandNames : List ℕ
-commandNames = ascii "transfer in channel/no operation/seek/set file mask/set sector/search ID equal/read home address/unlisted command/read data/read key and data/read count/read count, key and data"
+commandNames =
+    ascii "transfer in channel/no operation/seek/set file mask/set sector/search ID equal/read home address/unlisted command/"
+    ++ ascii "read data/read key and data/read count/read count, key and data"
 
 -- a read of a record, by what it moves
 unfoldable pub readIndex : Read → ℕ
@@ -57,9 +59,12 @@ flagsText flags = each 8 0 (flagText flags)
 
 -- ---- sense bits
 
--- the 24 bits of sense bytes 0 to 2 (source document 002, "Sense bytes 0-7 summary"); "on" for one that it does not use
+-- the bits of sense bytes 0, 1 and 2, a line for each byte (source document 002, "Sense bytes 0-7 summary"); "on" for one that it does not use
 unfoldable pub senseNames : List ℕ
-senseNames = ascii "command reject/intervention required/channel bus out parity/equipment check/data check/overrun/on/on/permanent error/invalid track format/end of cylinder/on/no record found/file protected/write inhibited/operation incomplete/on/correctable/on/environmental data present/on/on/on/on"
+senseNames =
+    ascii "command reject/intervention required/channel bus out parity/equipment check/data check/overrun/on/on/"
+    ++ ascii "permanent error/invalid track format/end of cylinder/on/no record found/file protected/write inhibited/operation incomplete/"
+    ++ ascii "on/correctable/on/environmental data present/on/on/on/on"
 
 unfoldable pub senseName : ℕ → List ℕ
 senseName i = item i senseNames
@@ -72,10 +77,19 @@ actionNames = ascii "/1/2/3/4/5/6/7/8/9/10/11"
 unfoldable pub actionName : ℕ → List ℕ
 actionName k = pick (eqb k 0x16) (ascii "6A") (item k actionNames)
 
--- ---- questions, by their numbers
+-- ---- questions, by their numbers from 1
 
 unfoldable pub questionTexts : List ℕ
-questionTexts = ascii "/are all areas and limits as they must be?/is the image well formed?/is each fault well formed and its record in the image?/is the report well formed?/is the extent on the pack, first not after last?/does a row of the error table match?/is the action other than 6, 6A, 7, 9, 11?/for action 5: is sense byte 7 = 53?/do report and chain agree?"
+questionTexts =
+    ascii "/are all areas and limits as they must be?"
+    ++ ascii "/is the image well formed?"
+    ++ ascii "/is each fault well formed and its record in the image?"
+    ++ ascii "/is the report well formed?"
+    ++ ascii "/is the extent on the pack, first not after last?"
+    ++ ascii "/does a row of the error table match?"
+    ++ ascii "/is the action other than 6, 6A, 7, 9, 11?"
+    ++ ascii "/for action 5: is sense byte 7 = 53?"
+    ++ ascii "/do report and chain agree?"
 
 -- the number of a refusal, and its question
 unfoldable pub refusalLine : Question → List ℕ
