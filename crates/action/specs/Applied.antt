@@ -19,6 +19,7 @@ use Rattle.channel.specs.declared.Location.{Location}
 use Rattle.channel.specs.Ccw.{addressOf}
 use Rattle.channel.specs.Walk.{walked}
 use Rattle.drive.specs.declared.FileMask.{FileMask}
+use Rattle.command.specs.Answer.{CswLow}
 use Rattle.recovery.specs.Table.{Row}
 use Rattle.recovery.specs.Report.{Report}
 use Rattle.recovery.specs.Recovery as Recovery
@@ -56,6 +57,16 @@ applied Recovery.repeats st p a = with Repeat st p a
 applied (Recovery.correctedOnly s) st p a = with CorrectedOnly s p a
 applied (Recovery.finished w s) st p a = with (Finished w) s p a
 applied (Recovery.restarts k q b s) st p a = with (Restart (kindOf k)) s q b
+
+-- the CSW that recovery finished a chain with fits its bytes
+abbrev pub RecoveredLow : Recovered → Type 0
+RecoveredLow (Refused q) = Unit {0}
+RecoveredLow ActionOne = Unit {0}
+RecoveredLow ActionTwo = Unit {0}
+RecoveredLow Repeat = Unit {0}
+RecoveredLow CorrectedOnly = Unit {0}
+RecoveredLow (Finished w) = CswLow w
+RecoveredLow (Restart k) = Unit {0}
 
 -- ---- what the code is told
 

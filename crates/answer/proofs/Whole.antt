@@ -1,12 +1,11 @@
 -- The whole answer, from its parts.
 --   csw-length, status-length, cut-length, last-length   how long the parts are
 --   whole                                    36 bytes, after the three parts were written to a lent area
---   last-like                                the last part, by the low bytes of its address
 --   ended-so, cut-so, limit-so               the bytes are those of what the run shows
 use Prim.Native.Nat.{ℕ, _+_, _-_}
 use native.Mathlib.Omega.{arith}
 use mathlib.Core.Path.{_≡_, refl, ap, sym, _∙_}
-use mathlib.Core.List.{List, [], _++_, append-assoc, append-nil, map-append}
+use mathlib.Core.List.{List, [], _++_, append-assoc, append-nil}
 use lib.ListN.{length, take, drop, length-append, length-drop, drop-of-length-le}
 use lib.Seq.{take-append-seam}
 use borrow.Rule.Slice.PartMut.{midOf, putMid}
@@ -30,27 +29,27 @@ use Rattle.command.specs.Answer.{senseOf, cutOf}
 use Rattle.trial.specs.declared.Ran.the-variants as Ran
 use Rattle.trial.specs.Trial.{shownOf}
 use Rattle.channel.specs.Csw.{cswBytes}
-use Rattle.answer.specs.Answer.{maskBytes, lowered, answerBytes, Writes}
+use Rattle.answer.specs.Answer.{maskBytes, answerBytes, Writes}
 
 -- ---- lengths
 
-pub csw-length : (w : Csw) → length (lowered (cswBytes w)) ≡ 8
-unfolding lowered cswBytes three two
+pub csw-length : (w : Csw) → length (cswBytes w) ≡ 8
+unfolding cswBytes three two
 csw-length w = refl
 
-pub status-length : (s : Status) → length (lowered (senseOf s)) ≡ 24
-unfolding lowered Step.noSense Step.checkSense
+pub status-length : (s : Status) → length (senseOf s) ≡ 24
+unfolding Step.noSense Step.checkSense
 status-length Quiet = refl
 status-length (Refused Rejected) = refl
 status-length (Refused NotFound) = refl
 status-length (Refused Protected) = refl
 
-pub cut-length : (k : Cut) → length (lowered (Step.cutSense (cutOf k []))) ≡ 24
-unfolding lowered Step.cutSense addressBytes three two
+pub cut-length : (k : Cut) → length (Step.cutSense (cutOf k [])) ≡ 24
+unfolding Step.cutSense addressBytes three two
 cut-length k = refl
 
-pub last-length : (m : FileMask) (n : ℕ) → length (lowered (maskBytes m ++ two n)) ≡ 4
-unfolding lowered maskBytes two
+pub last-length : (m : FileMask) (n : ℕ) → length (maskBytes m ++ two n) ≡ 4
+unfolding maskBytes two
 last-length Unset n = refl
 last-length (Set m) n = refl
 
@@ -81,39 +80,24 @@ module _ (x c s t : List ℕ) (hx : length x ≡ 36) (hc : length c ≡ 8) (hs :
     sized : length x₂ ≡ 36
     sized = rw both (simp (length-append, length-drop) (omega (arith, size)))
 
-    assembled : (t₁ : List ℕ) → t₁ ≡ t ++ drop 4 (midOf 32 (length x₂ - 32) x₂) → putMid 32 (length x₂ - 32) x₂ t₁ ≡ c ++ s ++ t
-    assembled t₁ g =
+    pub whole : (t₁ : List ℕ) → t₁ ≡ t ++ drop 4 (midOf 32 (length x₂ - 32) x₂) → putMid 32 (length x₂ - 32) x₂ t₁ ≡ c ++ s ++ t
+    whole t₁ g =
         home x₂ t t₁ 32 4 ht g
         ∙ ap (λ (l : List ℕ). l ++ (t ++ drop 36 x₂)) (ap (λ (l : List ℕ). take 32 l) both ∙ seam (drop 32 x₁) (c ++ s) 32 (rw length-append (omega arith)))
         ∙ ap (λ (l : List ℕ). (c ++ s) ++ (t ++ l)) (drop-of-length-le x₂ {i = 36} (omega (arith, sized))) ∙ ap (λ (l : List ℕ). (c ++ s) ++ l) (append-nil t)
 
 -- ---- the bytes of an answer
 
-lowered-append : (a b : List ℕ) → lowered (a ++ b) ≡ lowered a ++ lowered b
-unfolding lowered
-lowered-append a b = map-append _ a b
-
-pub last-like : (m : FileMask) (n k : ℕ) → lowered (two n) ≡ lowered (two k) → lowered (maskBytes m ++ two n) ≡ lowered (maskBytes m ++ two k)
-last-like m n k e = lowered-append (maskBytes m) (two n) ∙ ap (λ (l : List ℕ). lowered (maskBytes m) ++ l) e ∙ sym (lowered-append (maskBytes m) (two k))
-
-module _ (a b d x x₁ s₁ : List ℕ) where
-  pub whole : length x ≡ 36 → length (lowered a) ≡ 8 → length (lowered b) ≡ 24 → length (lowered d) ≡ 4 → x₁ ≡ lowered a ++ drop 8 x
-      → s₁ ≡ lowered b ++ drop 24 (midOf 8 (length x₁ - 8) x₁) → (t₁ : List ℕ) → t₁ ≡ lowered d ++ drop 4 (midOf 32 (length (putMid 8 (length x₁ - 8) x₁ s₁) - 32) (putMid 8 (length x₁ - 8) x₁ s₁))
-      → putMid 32 (length (putMid 8 (length x₁ - 8) x₁ s₁) - 32) (putMid 8 (length x₁ - 8) x₁ s₁) t₁ ≡ lowered (a ++ b ++ d)
-  whole hx ha hb hd e f t₁ g =
-      assembled x (lowered a) (lowered b) (lowered d) hx ha hb hd x₁ s₁ e f t₁ g
-      ∙ ap (λ (l : List ℕ). l ++ lowered d) (sym (lowered-append a b)) ∙ sym (lowered-append (a ++ b) d)
-
-pub ended-so : (e : End) (after : List ℕ) → after ≡ lowered (cswBytes (e .csw) ++ senseOf (e .status) ++ (maskBytes (e .mask) ++ two 0)) → Writes (Ran.Ended e) after
+pub ended-so : (e : End) (after : List ℕ) → after ≡ cswBytes (e .csw) ++ senseOf (e .status) ++ (maskBytes (e .mask) ++ two 0) → Writes (Ran.Ended e) after
 unfolding answerBytes shownOf opt
 ended-so e after q st = q
 
-pub cut-so : (k : Cut) (after : List ℕ) → after ≡ lowered (cswBytes (k .csw) ++ Step.cutSense (cutOf k []) ++ (maskBytes (k .mask) ++ two (addressOf (k .first))))
+pub cut-so : (k : Cut) (after : List ℕ) → after ≡ cswBytes (k .csw) ++ Step.cutSense (cutOf k []) ++ (maskBytes (k .mask) ++ two (addressOf (k .first)))
     → Writes (Ran.Cut k) after
 unfolding answerBytes shownOf opt Step.cutSense
 cut-so k after q st = q
 
 pub limit-so : (s : State) (w : Csw) (after : List ℕ) → w ≡ Step.cswAt (s .last) 0x0c 0 (s .left)
-    → after ≡ lowered (cswBytes w ++ Step.noSense ++ (maskBytes (s .drive .mask) ++ two 0)) → Writes (Ran.Limited s) after
+    → after ≡ cswBytes w ++ Step.noSense ++ (maskBytes (s .drive .mask) ++ two 0) → Writes (Ran.Limited s) after
 unfolding answerBytes shownOf opt limitCsw
-limit-so s w after e q st = q ∙ ap (λ (v : Csw). lowered (cswBytes v ++ Step.noSense ++ (maskBytes (s .drive .mask) ++ two 0))) e
+limit-so s w after e q st = q ∙ ap (λ (v : Csw). cswBytes v ++ Step.noSense ++ (maskBytes (s .drive .mask) ++ two 0)) e

@@ -1,7 +1,7 @@
 -- A run's answer as 36 bytes: CSW 8, sense 24, whether a file mask was set 1, the mask 1, address of a cut read's first CCW 2.
-use Prim.Native.Nat.{ℕ, _%_}
+use Prim.Native.Nat.{ℕ}
 use mathlib.Core.Path.{_≡_}
-use mathlib.Core.List.{List, [], _∷_, _++_, map}
+use mathlib.Core.List.{List, [], _∷_, _++_}
 use Rattle.base.specs.Choice.{pick, opt}
 use Rattle.base.specs.Bytes.{two}
 use Rattle.channel.specs.Csw.{cswBytes}
@@ -16,13 +16,9 @@ unfoldable pub maskBytes : FileMask → List ℕ
 maskBytes Unset = 0 ∷ 0 ∷ []
 maskBytes (Set m) = 1 ∷ m ∷ []
 
--- numbers as bytes: the low eight bits of each
-unfoldable pub lowered : List ℕ → List ℕ
-lowered s = map (λ n. n % 256) s
-
 -- what a run shows, in that order; the address is 0 where there is no cut
 unfoldable pub answerBytes : Shown → List ℕ
-answerBytes x = lowered (cswBytes (x .csw) ++ x .sense ++ (maskBytes (x .mask) ++ two (opt (x .first) 0 (λ a. a))))
+answerBytes x = cswBytes (x .csw) ++ x .sense ++ (maskBytes (x .mask) ++ two (opt (x .first) 0 (λ a. a)))
 
 -- 10 for "limit", 0 for any other end
 unfoldable pub endNumber : Shown → ℕ

@@ -1,6 +1,5 @@
 // A run's answer as bytes.
 use channel::Csw;
-use channel::Location;
 use command::Check;
 use command::Cut;
 use command::Status;
@@ -8,41 +7,35 @@ use drive::FileMask;
 use trial::Ran;
 ghost use mathlib.Core.Path.{_≡_};
 ghost use mathlib.Core.List.{[], _∷_, _++_};
-ghost use Prim.Native.Nat.{_%_, _≤_};
+ghost use Prim.Native.Nat.{_<_, _≤_};
 ghost use lib.ListN.{length, drop, replicate};
 ghost use Rattle.base.specs.Choice.{pick};
 ghost use Rattle.base.specs.Bytes.{two};
 ghost use Rattle.channel.specs.Ccw.{addressOf};
 ghost use Rattle.drive.specs.Step as Step;
-ghost use Rattle.command.specs.Answer.{senseOf, cutOf, CutLow};
+ghost use Rattle.command.specs.Answer.{senseOf, cutOf, CswLow, CutLow};
 ghost use Rattle.trial.specs.Run.{RanLow};
 ghost use Rattle.channel.specs.Csw.{cswBytes};
-ghost use Rattle.answer.specs.Answer.{maskBytes, lowered, Writes, Numbers};
-
-// The low eight bits of a number.
-fn low(n: usize) -> u8
-    ensures { λ r. ⌜ r ≡ n % 256 ⌝ }
-{
-    (n % 256) as u8
-}
+ghost use Rattle.answer.specs.Answer.{maskBytes, Writes, Numbers};
 
 // ---- the parts of an answer, each at the front of what is lent
 
 pub fn put_csw(to: &mut [u8], w: Csw)
     requires { ⌜ 8 ≤ length (now to) ⌝ }
-    ensures { λ _. ⌜ now (to .exit) ≡ lowered (cswBytes w) ++ drop 8 (now (to .entry)) ⌝ }
+    requires { ⌜ CswLow w ⌝ }
+    ensures { λ _. ⌜ now (to .exit) ≡ cswBytes w ++ drop 8 (now (to .entry)) ⌝ }
 {
     copy::put(
         to,
         &[
             0,
-            low(w.address / 65536),
-            low(w.address / 256),
-            low(w.address),
-            low(base::wide(w.unit)),
-            low(base::wide(w.channel)),
-            low(w.count / 256),
-            low(w.count),
+            (w.address / 65536) as u8,
+            (w.address / 256 % 256) as u8,
+            (w.address % 256) as u8,
+            w.unit,
+            w.channel,
+            (w.count / 256) as u8,
+            (w.count % 256) as u8,
         ],
     );
 }
@@ -86,7 +79,7 @@ fn put_check(to: &mut [u8], first: u8, second: u8)
 // The sense of an end that no faulted data area made.
 fn put_status(to: &mut [u8], s: Status)
     requires { ⌜ 24 ≤ length (now to) ⌝ }
-    ensures { λ _. ⌜ now (to .exit) ≡ lowered (senseOf s) ++ drop 24 (now (to .entry)) ⌝ }
+    ensures { λ _. ⌜ now (to .exit) ≡ senseOf s ++ drop 24 (now (to .entry)) ⌝ }
 {
     match s {
         Status::Quiet => put_check(to, 0, 0),
@@ -111,8 +104,8 @@ fn over_bit(over: bool) -> u8
 // The sense of a cut.
 pub fn put_cut_sense(to: &mut [u8], k: Cut)
     requires { ⌜ 24 ≤ length (now to) ⌝ }
-    ensures { λ _. ⌜ now (to .exit) ≡ lowered (Step.cutSense (cutOf k [])) ++ drop 24 (now (to .entry)) ⌝ }
-    ensures plain { λ _. ⌜ (CutLow k → now (to .exit) ≡ Step.cutSense (cutOf k []) ++ drop 24 (now (to .entry))) ⌝ }
+    requires { ⌜ CutLow k ⌝ }
+    ensures { λ _. ⌜ now (to .exit) ≡ Step.cutSense (cutOf k []) ++ drop 24 (now (to .entry)) ⌝ }
 {
     let at = k.at;
     copy::put(
@@ -126,21 +119,21 @@ pub fn put_cut_sense(to: &mut [u8], k: Cut)
             0,
             0,
             0x53,
-            low(at.cylinder / 256),
-            low(at.cylinder),
-            low(at.head / 256),
-            low(at.head),
-            low(k.r),
+            (at.cylinder / 256) as u8,
+            (at.cylinder % 256) as u8,
+            (at.head / 256) as u8,
+            (at.head % 256) as u8,
+            k.r as u8,
             0,
             0,
-            low(k.restart / 65536),
-            low(k.restart / 256),
-            low(k.restart),
-            low(k.error / 256),
-            low(k.error),
-            low(base::wide(k.pattern0)),
-            low(base::wide(k.pattern1)),
-            low(base::wide(k.pattern2)),
+            (k.restart / 65536) as u8,
+            (k.restart / 256 % 256) as u8,
+            (k.restart % 256) as u8,
+            (k.error / 256) as u8,
+            (k.error % 256) as u8,
+            k.pattern0,
+            k.pattern1,
+            k.pattern2,
             over_bit(k.over),
         ],
     );
@@ -149,23 +142,12 @@ pub fn put_cut_sense(to: &mut [u8], k: Cut)
 // The file mask, and the address of a cut read's first CCW.
 fn put_last(to: &mut [u8], mask: FileMask, first: usize)
     requires { ⌜ 4 ≤ length (now to) ⌝ }
-    ensures { λ _. ⌜ now (to .exit) ≡ lowered (maskBytes mask ++ two first) ++ drop 4 (now (to .entry)) ⌝ }
+    requires { ⌜ first < 0x10000 ⌝ }
+    ensures { λ _. ⌜ now (to .exit) ≡ maskBytes mask ++ two first ++ drop 4 (now (to .entry)) ⌝ }
 {
     match mask {
-        FileMask::Unset => copy::put(to, &[0, 0, low(first / 256), low(first)]),
-        FileMask::Set(m) => {
-            copy::put(to, &[1, low(base::wide(m)), low(first / 256), low(first)])
-        }
-    }
-}
-
-// A number with the two low bytes of a CCW's address.
-fn low_address(l: Location) -> usize
-    ensures { λ r. ⌜ lowered (two r) ≡ lowered (two (addressOf l)) ⌝ }
-{
-    match l {
-        Location::Chain(a) => a,
-        Location::Restart(a) => 0x1000 + a % 65536,
+        FileMask::Unset => copy::put(to, &[0, 0, (first / 256) as u8, (first % 256) as u8]),
+        FileMask::Set(m) => copy::put(to, &[1, m, (first / 256) as u8, (first % 256) as u8]),
     }
 }
 
@@ -174,7 +156,8 @@ fn low_address(l: Location) -> usize
 // An end, or "limit".
 fn put_end(answer: &mut [u8], w: Csw, s: Status, mask: FileMask)
     requires { ⌜ length (now answer) ≡ 36 ⌝ }
-    ensures { λ _. ⌜ now (answer .exit) ≡ lowered (cswBytes w ++ senseOf s ++ (maskBytes mask ++ two 0)) ⌝ }
+    requires { ⌜ CswLow w ⌝ }
+    ensures { λ _. ⌜ now (answer .exit) ≡ cswBytes w ++ senseOf s ++ (maskBytes mask ++ two 0) ⌝ }
 {
     put_csw(answer, w);
     put_status(&mut answer[8..], s);
@@ -183,13 +166,14 @@ fn put_end(answer: &mut [u8], w: Csw, s: Status, mask: FileMask)
 
 fn put_cut(answer: &mut [u8], k: Cut)
     requires { ⌜ length (now answer) ≡ 36 ⌝ }
-    ensures { λ _. ⌜ now (answer .exit) ≡ lowered (cswBytes (k .csw) ++ Step.cutSense (cutOf k []) ++ (maskBytes (k .mask) ++ two (addressOf (k .first)))) ⌝ }
+    requires { ⌜ CutLow k ⌝ }
+    ensures { λ _. ⌜ now (answer .exit) ≡ cswBytes (k .csw) ++ Step.cutSense (cutOf k []) ++ (maskBytes (k .mask) ++ two (addressOf (k .first))) ⌝ }
 {
     put_csw(answer, k.csw);
     put_cut_sense(&mut answer[8..], k);
     let mask = k.mask;
     let first = k.first;
-    put_last(&mut answer[32..], mask, low_address(first));
+    put_last(&mut answer[32..], mask, command::address_of(first));
 }
 
 // What a run comes to, into an area of 36 bytes.

@@ -10,6 +10,7 @@ use Rattle.pack.specs.Pack.{packOf}
 use Rattle.machine.specs.Machine.{goes, ends, cuts}
 use Rattle.channel.specs.declared.Ccw.{Ccw}
 use Rattle.channel.specs.declared.Location.{Location}
+use Rattle.channel.specs.declared.Csw.{Csw}
 use Rattle.channel.specs.Ccw.{Lent, addressOf, argument}
 use Rattle.drive.specs.declared.Command.{Command}
 use Rattle.drive.specs.declared.Command.the-variants.{NoOperation, Seek, SetMask, SetSector, SearchId, ReadHome, ReadRecord, Unlisted}
@@ -74,6 +75,16 @@ Answers f r = (st : List ℕ) → f st ≡ answerOf r st
 abbrev pub Low : Location → Type 0
 Low l = addressOf l < 0x10000
 
+-- The numbers of a CSW fit their bytes; its two status bytes are bytes in the code.
+pub record CswLow (w : Csw) : Type 0 where
+  pub address : w .address < 0x1000000
+  pub count : w .count < 0x10000
+
+-- A CSW can show the CCW that was fetched last, and its count left.
+pub record StateLow (s : State) : Type 0 where
+  pub last-low : Low (s .last)
+  pub left-low : s .left < 0x10000
+
 -- What a cut tells fits the bytes of a report.
 pub record CutLow (k : Cut) : Type 0 where
   pub cylinder : k .at .cylinder < 0x10000
@@ -82,12 +93,12 @@ pub record CutLow (k : Cut) : Type 0 where
   pub restart-low : k .restart < 0x10000
   pub error-low : k .error < 0x10000
   pub first-low : Low (k .first)
-  pub csw-low : k .csw .address < 0x1000000
+  pub csw-low : CswLow (k .csw)
 
--- The drive stands in the image; the CCW that was fetched last has an address that a CSW can show; a cut fits a report.
+-- The drive stands in the image; what is shown of a state, an end or a cut fits its bytes.
 abbrev pub Kept : List ℕ → Answer → Type 0
-Kept image (Goes s) = Standing image (s .drive) × Low (s .last)
-Kept image (Ends e) = Unit {0}
+Kept image (Goes s) = Standing image (s .drive) × StateLow s
+Kept image (Ends e) = CswLow (e .csw)
 Kept image (Cuts k) = CutLow k
 
 -- in every image

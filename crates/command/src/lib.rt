@@ -17,7 +17,7 @@ ghost use Rattle.drive.specs.declared.Command.the-variants as Commands;
 ghost use Rattle.drive.specs.Arguments.{ArgumentIn};
 ghost use Rattle.drive.specs.Step as Step;
 ghost use Rattle.position.specs.Standing.{driveOf, Standing, searchPlan};
-ghost use Rattle.command.specs.Answer.{checkOf, Answers, Low, Kept, KeptAlways, KeptWith, KeptBehind, Plans, ArgumentWord, Seeks, Performs, moveless, argues};
+ghost use Rattle.command.specs.Answer.{checkOf, Answers, Low, CswLow, Kept, KeptAlways, KeptWith, KeptBehind, Plans, ArgumentWord, Seeks, Performs, moveless, argues};
 
 // The unit checks that are no data check.
 pub enum Check {
@@ -85,7 +85,9 @@ pub fn address_of(l: Location) -> usize
 // The CSW behind the CCW at a place.
 pub fn csw_at(l: Location, unit: u8, channel: u8, left: usize) -> Csw
     requires { ⌜ Low l ⌝ }
+    requires { ⌜ left < 0x10000 ⌝ }
     ensures { λ r. ⌜ r ≡ Step.cswAt l unit channel left ⌝ }
+    ensures { λ r. ⌜ CswLow r ⌝ }
 {
     Csw {
         address: address_of(l) + 8,
@@ -112,6 +114,7 @@ pub fn program_check(l: Location, d: Drive) -> Answer
 // A unit check: the command moves nothing.
 pub fn refuse(k: Check, l: Location, c: Ccw, d: Drive) -> Answer
     requires { ⌜ Low l ⌝ }
+    requires { ⌜ InBytes c ⌝ }
     ensures { λ r. ⌜ Answers (Step.refusal (checkOf k) l c (driveOf d)) r ⌝ }
     ensures { λ r. ⌜ KeptAlways r ⌝ }
 {
@@ -126,6 +129,7 @@ pub fn refuse(k: Check, l: Location, c: Ccw, d: Drive) -> Answer
 // The command whose last CCW is c at l is done, with the drive behind it: on to a place, or the end where c does not chain.
 pub fn onward(l: Location, to: Location, c: Ccw, left: usize, d: Drive) -> Answer
     requires { ⌜ Low l ⌝ }
+    requires { ⌜ left < 0x10000 ⌝ }
     ensures { λ r. ⌜ Answers (Step.onward l to c left (driveOf d)) r ⌝ }
     ensures { λ r. ⌜ KeptWith d r ⌝ }
 {
@@ -172,6 +176,7 @@ fn counted(c: Ccw, n: usize) -> bool
 fn no_operation(image: &[u8], l: Location, c: Ccw, d: Drive) -> Answer
     requires { ⌜ Standing (now image) d ⌝ }
     requires { ⌜ Low l ⌝ }
+    requires { ⌜ InBytes c ⌝ }
     ensures { λ r. ⌜ Plans (Step.planNoOperation l c (driveOf d)) r ⌝ }
     ensures { λ r. ⌜ Kept (now (image .entry)) r ⌝ }
 {
@@ -202,6 +207,7 @@ fn protects(mask: FileMask) -> bool
 fn seek_to(image: &[u8], zero: usize, a: Address, l: Location, c: Ccw, d: Drive) -> Answer
     requires { ⌜ Standing (now image) d ⌝ }
     requires { ⌜ Low l ⌝ }
+    requires { ⌜ InBytes c ⌝ }
     requires { ⌜ (a .cylinder < 65536) × (a .head < 65536) ⌝ }
     ensures { λ r. ⌜ Seeks zero a l c (driveOf d) r ⌝ }
     ensures { λ r. ⌜ Kept (now (image .entry)) r ⌝ }
@@ -268,6 +274,7 @@ fn is_set(mask: FileMask) -> bool
 fn set_mask_to(image: &[u8], m: u8, l: Location, c: Ccw, d: Drive) -> Answer
     requires { ⌜ Standing (now image) d ⌝ }
     requires { ⌜ Low l ⌝ }
+    requires { ⌜ InBytes c ⌝ }
     ensures { λ r. ⌜ Plans (λ st. Step.planMask l c (driveOf d) st m) r ⌝ }
     ensures { λ r. ⌜ Kept (now (image .entry)) r ⌝ }
 {
@@ -343,6 +350,7 @@ fn set_sector(
 // A search's answer, of what it examined on the drive d. An equal one skips a CCW.
 fn searched(x: Examined, l: Location, c: Ccw, d: Drive) -> Answer
     requires { ⌜ Low l ⌝ }
+    requires { ⌜ InBytes c ⌝ }
     ensures { λ r. ⌜ Plans (λ st. searchPlan l c (driveOf d) st x) r ⌝ }
     ensures { λ r. ⌜ KeptBehind x r ⌝ }
 {

@@ -3,6 +3,7 @@
 --   reported                         the report that the code tells is that of the cut
 --   again                            a restart
 --   closed, corrected                an end: finished, and corrected only
+--   closed-low                       the CSW of the first fits its bytes
 --   refused, one, two, repeated      a stop, with all areas as they were
 use Prim.Native.Nat.{ℕ, _-_, _*_}
 use mathlib.Core.Path.{_≡_, refl, ap, ap₂, sym, _∙_}
@@ -22,7 +23,7 @@ use Rattle.channel.specs.Ccw.{addressOf}
 use Rattle.drive.specs.Drive.{addressBytes}
 use Rattle.drive.specs.Step as Step
 use Rattle.command.specs.declared.Cut.{Cut}
-use Rattle.command.specs.Answer.{cutOf}
+use Rattle.command.specs.Answer.{cutOf, CswLow}
 use Rattle.trial.specs.declared.Ran.{Ran}
 use Rattle.trial.specs.Run.{Runs}
 use Rattle.recovery.specs.Table.{rows}
@@ -35,6 +36,7 @@ use Rattle.action.specs.Applied.{Applied, with, applied, kindOf, givenOf, repor
 use Rattle.home.specs.declared.User.the-variants.{Missing}
 use Rattle.home.specs.User.{userIn}
 use Rattle.recover.specs.Recover.{Recovers}
+use Rattle.recover.proofs.Finished.{recovered-low}
 use Rattle.reply.specs.Reply.{actionNumber}
 use Rattle.law.specs.WholeReading.{Stopped, byAction, byQuestion, reportOf, entryOf, answered, recoverCut, restartedIn, restartedRun}
 use Rattle.cut.specs.declared.Went.{Went}
@@ -114,6 +116,10 @@ module _ (chain : List ℕ) (x : Extent) (k : Cut) (st p a : List ℕ) where
     is : recoverCut (givenOf rows chain x) (cutOf k st) ≡ answered (cutOf k st) (back r st′ p′ a′)
     unfolding recoverCut
     is = ap (answered (cutOf k st)) came
+
+  pub closed-low : (w : Csw) (st′ p′ a′ : List ℕ) → CswLow (k .csw) → RecoversCut chain x k st p a (with (Finished w) st′ p′ a′) → CswLow w
+  unfolding reportOf
+  closed-low w st′ p′ a′ low e = recovered-low (givenOf rows chain x) (reportOf (cutOf k st)) st p a (with (Finished w) st′ p′ a′) low e
 
   -- the bytes of an entry
   entry-is : (kind : Kind) (action : ℕ) → action ≡ actionNumber kind → action ∷ addressBytes (k .at) ++ k .r ∷ [] ≡ entryBytes (entryOf (kindBack kind) (cutOf k st))

@@ -9,7 +9,7 @@ use Rattle.address.specs.declared.Extent.{Extent}
 use Rattle.machine.specs.Reading.{restart, finish, stop}
 use Rattle.drive.specs.Step as Step
 use Rattle.command.specs.declared.Cut.{Cut}
-use Rattle.command.specs.Answer.{cutOf, settingOf}
+use Rattle.command.specs.Answer.{cutOf, settingOf, CswLow}
 use Rattle.execute.specs.Executes.{lentOf}
 use Rattle.trial.specs.Run.{ranOf, RanLow}
 use Rattle.recovery.specs.Table.{rows}
@@ -62,7 +62,8 @@ AfterCut chain arguments image faults x k made z (Closed w) y =
 AfterCut chain arguments image faults x k made z (Halted n) y =
     (s : Stopped) × (recoverCut (givenOf rows chain x) (cutOf k (z .storage)) ≡ stop s) × (n ≡ stoppedNumber s) × (y ≡ z)
 
+-- what comes of a cut fits its bytes
 abbrev pub WentLow : Went → Type 0
 WentLow (Again r) = RanLow r
-WentLow (Closed w) = Unit {0}
+WentLow (Closed w) = CswLow w
 WentLow (Halted n) = Unit {0}

@@ -1,5 +1,5 @@
 -- Reads through their data chain, from how it ended.
---   moved-low      a CSW can show the CCW that a read ended with
+--   moved-low      a CSW can show the CCW that a read ended with, and its count left
 --   ended-so       what a read comes to, from what its end was settled to
 --   front .. put-back    bytes at the front of others
 use Prim.Native.Nat.{ℕ, _+_, _-_, _<_, _≤_}
@@ -18,7 +18,7 @@ use Rattle.channel.specs.Store.{store}
 use Rattle.channel.specs.Walk.{Walk, walked, stopped, walk}
 use Rattle.channel.proofs.Shown.{WalkShown, walk-shown, fetched-inside}
 use Rattle.transfer.specs.declared.Moved.{Moved}
-use Rattle.transfer.specs.Transfer.{Left, left, carried, transferred, Transfers}
+use Rattle.transfer.specs.Transfer.{Left, left, carried, transferred, Transfers, CountLow}
 use Rattle.drive.specs.Step as Step
 use Rattle.command.specs.declared.Answer.{Answer}
 use Rattle.command.specs.Answer.{answerOf, Low}
@@ -31,18 +31,18 @@ unfolding addressOf
 inside-low chain program h (Chain a) i = omega arith
 inside-low chain program h (Restart a) i = omega arith
 
-shown-low : (m : Moved) (after bs st : List ℕ) (w : Walk) → WalkShown Low w → left m after ≡ carried w bs st → LowMoved m
+shown-low : (m : Moved) (after bs st : List ℕ) (w : Walk) → WalkShown Low w → CountLow m → left m after ≡ carried w bs st → LowMoved m
 unfolding carried
-shown-low m after bs st (walked ps l c n over) h e = subst LowMoved (sym (ap (λ (x : Left). x .moved) e)) h
-shown-low m after bs st (stopped ps l) h e = subst LowMoved (sym (ap (λ (x : Left). x .moved) e)) h
+shown-low m after bs st (walked ps l c n over) h k e = let q = ap (λ (x : Left). x .moved) e in subst LowMoved (sym q) (h, subst CountLow q k)
+shown-low m after bs st (stopped ps l) h k e = subst LowMoved (sym (ap (λ (x : Left). x .moved) e)) h
 
 module _ (chain program : List ℕ) (l : Location) (c : Ccw) (bs st after : List ℕ) (m : Moved) (t : Transfers chain program l c bs st (left m after)) where
-  pub moved-low : Ready chain program st l c → LowMoved m
+  pub moved-low : CountLow m → Ready chain program st l c → LowMoved m
   unfolding transferred
-  moved-low h =
+  moved-low few h =
       let p = lentOf chain [] program [] in
       let low = inside-low chain program (h .short) in
-      shown-low m after bs st _ (walk-shown Low p (λ k e f. low k (fetched-inside p k e f)) (length st) (length bs) l c (c .count) (c .address) (low l (h .inside))) (t p refl refl)
+      shown-low m after bs st _ (walk-shown Low p (λ k e f. low k (fetched-inside p k e f)) (length st) (length bs) l c (c .count) (c .address) (low l (h .inside))) few (t p refl refl)
 
   pub ended-so : (n : ℕ) (f : Walk → Step.Answer) (r : Answer) → length bs ≡ n → ((ps : List (Option ℕ)) → f (walkOf ps m) ≡ answerOf r (store ps bs st))
       → Ends chain program l c n st f r after

@@ -9,21 +9,20 @@ use lib.ListN.{length, set, drop, length-set, length-append, length-drop}
 use Rattle.base.specs.Bytes.{two, three}
 use Rattle.channel.specs.declared.Csw.{Csw}
 use Rattle.channel.specs.Csw.{cswBytes}
-use Rattle.answer.specs.Answer.{lowered}
 use Rattle.answer.proofs.Whole.{csw-length}
 use Rattle.whole.specs.declared.Over.{Over}
 use Rattle.outcome.specs.Outcome.{stopNumber, overBytes}
 
 -- three bytes set behind a CSW
-behind-csw : (w : Csw) (t : List ℕ) (a b c : ℕ) → length t ≡ 3 → set (set (set (lowered (cswBytes w) ++ t) 8 a) 9 b) 10 c ≡ lowered (cswBytes w) ++ a ∷ b ∷ c ∷ []
-unfolding lowered cswBytes three two
+behind-csw : (w : Csw) (t : List ℕ) (a b c : ℕ) → length t ≡ 3 → set (set (set (cswBytes w ++ t) 8 a) 9 b) 10 c ≡ cswBytes w ++ a ∷ b ∷ c ∷ []
+unfolding cswBytes three two
 behind-csw w [] a b c n = absurd (omega arith)
 behind-csw w (p ∷ []) a b c n = absurd (omega arith)
 behind-csw w (p ∷ q ∷ []) a b c n = absurd (omega arith)
 behind-csw w (p ∷ q ∷ r ∷ []) a b c n = refl
 behind-csw w (p ∷ q ∷ r ∷ s ∷ t) a b c n = absurd (omega arith)
 
-module _ (w : Csw) (x y : List ℕ) (n : length x ≡ 11) (e : y ≡ lowered (cswBytes w) ++ drop 8 x) where
+module _ (w : Csw) (x y : List ℕ) (n : length x ≡ 11) (e : y ≡ cswBytes w ++ drop 8 x) where
   csw-kept : length y ≡ 11
   csw-kept = rw (e, length-append, length-drop, csw-length w) (omega arith)
 
@@ -33,11 +32,10 @@ module _ (w : Csw) (x y : List ℕ) (n : length x ≡ 11) (e : y ≡ lowered (cs
   pub third-fits : (a b : ℕ) → 10 < length (set (set y 8 a) 9 b)
   third-fits a b = rw (length-set (set y 8 a) 9 b, length-set y 8 a, csw-kept) (omega arith)
 
-pub over-written : (o : Over) (x y : List ℕ) (s : ℕ) → length x ≡ 11 → y ≡ lowered (cswBytes (o .csw)) ++ drop 8 x → s ≡ stopNumber (o .how)
-    → set (set (set y 8 (o .made / 256 % 256)) 9 (o .made % 256)) 10 s ≡ overBytes o
-unfolding overBytes lowered cswBytes three two
+pub over-written : (o : Over) (x y : List ℕ) (s : ℕ) → length x ≡ 11 → y ≡ cswBytes (o .csw) ++ drop 8 x → s ≡ stopNumber (o .how)
+    → set (set (set y 8 (o .made / 256)) 9 (o .made % 256)) 10 s ≡ overBytes o
+unfolding overBytes cswBytes three two
 over-written o x y s n e f =
-    let low : o .made % 256 % 256 ≡ o .made % 256 = omega arith in
-    ap (λ (l : List ℕ). set (set (set l 8 (o .made / 256 % 256)) 9 (o .made % 256)) 10 s) e
+    ap (λ (l : List ℕ). set (set (set l 8 (o .made / 256)) 9 (o .made % 256)) 10 s) e
     ∙ behind-csw (o .csw) (drop 8 x) _ _ s (rw length-drop (omega arith))
-    ∙ rw (f, low)
+    ∙ rw f

@@ -4,7 +4,6 @@ use mathlib.Core.List.{List, [], _∷_, _++_}
 use Rattle.base.specs.Bytes.{two}
 use Rattle.questions.specs.Number.{numberOf}
 use Rattle.channel.specs.Csw.{cswBytes}
-use Rattle.answer.specs.Answer.{lowered}
 use Rattle.whole.specs.declared.How.{How}
 use Rattle.whole.specs.declared.How.the-variants.{Ended, Limited, Stop}
 use Rattle.whole.specs.declared.Over.{Over}
@@ -28,9 +27,9 @@ abbrev pub outcomeNumber : Outcome → ℕ
 outcomeNumber (Outcome.Refused q) = numberOf q
 outcomeNumber (Outcome.Over o) = howNumber (o .how)
 
--- the CSW and the number of recoveries, the low eight bits of each byte; and the number that stopped it
+-- the CSW, the number of recoveries, and the number that stopped it
 unfoldable pub overBytes : Over → List ℕ
-overBytes o = lowered (cswBytes (o .csw) ++ two (o .made)) ++ stopNumber (o .how) ∷ []
+overBytes o = cswBytes (o .csw) ++ two (o .made) ++ stopNumber (o .how) ∷ []
 
 -- the answer area: "A no answers its number and changes nothing."
 unfoldable pub outcomeAfter : List ℕ → Outcome → List ℕ

@@ -4,6 +4,7 @@ use whole::Outcome;
 use whole::Over;
 ghost use mathlib.Core.Path.{_≡_};
 ghost use lib.ListN.{length};
+ghost use Rattle.whole.specs.Reading.{OverLow, OutcomeLow};
 ghost use Rattle.outcome.specs.Outcome.{howNumber, stopNumber, overBytes, outcomeNumber, outcomeAfter};
 
 // 0 ended, 10 "limit", 11 "stopped".
@@ -31,10 +32,11 @@ fn stop_number(h: How) -> u8
 // An answer that is no refusal.
 fn put_over(answer: &mut [u8], o: Over)
     requires { ⌜ length (now answer) ≡ 11 ⌝ }
+    requires { ⌜ OverLow o ⌝ }
     ensures { λ _. ⌜ now (answer .exit) ≡ overBytes o ⌝ }
 {
     answer::put_csw(answer, o.csw);
-    answer[8] = (o.made / 256 % 256) as u8;
+    answer[8] = (o.made / 256) as u8;
     answer[9] = (o.made % 256) as u8;
     let how = o.how;
     answer[10] = stop_number(how);
@@ -43,6 +45,7 @@ fn put_over(answer: &mut [u8], o: Over)
 // An answer of a reading, into an area of 11 bytes; its number.
 pub fn put(answer: &mut [u8], o: Outcome) -> u8
     requires { ⌜ length (now answer) ≡ 11 ⌝ }
+    requires { ⌜ OutcomeLow o ⌝ }
     ensures { λ n. ⌜ n ≡ outcomeNumber o ⌝ }
     ensures { λ _. ⌜ now (answer .exit) ≡ outcomeAfter (now (answer .entry)) o ⌝ }
 {

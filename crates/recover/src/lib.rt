@@ -9,7 +9,7 @@ use report::Reported;
 use report::Seek;
 use table::Chosen;
 ghost use mathlib.Core.Path.{_≡_};
-ghost use Rattle.action.specs.Applied.{with};
+ghost use Rattle.action.specs.Applied.{with, RecoveredLow};
 ghost use Rattle.home.specs.User.{UserOnPack};
 ghost use Rattle.recover.specs.Recover.{recoverCall, Told, ActsBy, Recovers, triedOf, recoverAreas, UserOf};
 ghost use Rattle.report.specs.Reported.{SeekInside};
@@ -150,6 +150,7 @@ pub fn recover(
     arguments: &mut [u8],
 ) -> Recovered
     ensures { λ r. ⌜ with r (now (storage .exit)) (now (program .exit)) (now (arguments .exit)) ≡ recoverCall (now (chain .entry)) (now (report .entry)) (now (extent .entry)) (now (storage .entry)) (now (program .entry)) (now (arguments .entry)) ⌝ }
+    ensures { λ r. ⌜ RecoveredLow r ⌝ }
 {
     if !areas_fit(
         chain.len(),

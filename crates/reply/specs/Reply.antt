@@ -5,7 +5,6 @@ use mathlib.Core.List.{List, _∷_}
 use Rattle.questions.specs.Number.{numberOf}
 use Rattle.channel.specs.declared.Csw.{Csw}
 use Rattle.channel.specs.Csw.{cswBytes}
-use Rattle.answer.specs.Answer.{lowered}
 use Rattle.action.specs.declared.Kind.{Kind}
 use Rattle.action.specs.declared.Kind.the-variants.{Five, FiveA, Eight, Ten, TenA}
 use Rattle.action.specs.declared.Recovered.{Recovered}
@@ -33,7 +32,7 @@ abbrev pub noCsw : Csw
 noCsw = record { address = 0; unit = 0; channel = 0; count = 0 }
 
 abbrev pub bytesWith : ℕ → ℕ → Csw → List ℕ
-bytesWith what action w = what ∷ action ∷ lowered (cswBytes w)
+bytesWith what action w = what ∷ action ∷ cswBytes w
 
 -- 1 action 1, 2 action 2, 3 repeat, 4 corrected only, 5 finished, 6 restart. "A no answers its number and changes nothing."
 unfoldable pub replyAfter : List ℕ → Recovered → List ℕ

@@ -4,6 +4,8 @@ use action::Recovered;
 use channel::Csw;
 ghost use mathlib.Core.Path.{_≡_};
 ghost use lib.ListN.{length};
+ghost use Rattle.command.specs.Answer.{CswLow};
+ghost use Rattle.action.specs.Applied.{RecoveredLow};
 ghost use Rattle.reply.specs.Reply.{replyNumber, actionNumber, noCsw, bytesWith, replyAfter};
 
 // The action of a restart.
@@ -22,6 +24,7 @@ pub fn action_number(k: Kind) -> u8
 // A CSW of zeros.
 fn no_csw() -> Csw
     ensures { λ r. ⌜ r ≡ noCsw ⌝ }
+    ensures { λ r. ⌜ CswLow r ⌝ }
 {
     Csw {
         address: 0,
@@ -34,6 +37,7 @@ fn no_csw() -> Csw
 // An answer that is no refusal.
 fn put_with(answer: &mut [u8], what: u8, action: u8, w: Csw) -> u8
     requires { ⌜ length (now answer) ≡ 10 ⌝ }
+    requires { ⌜ CswLow w ⌝ }
     ensures { λ r. ⌜ r ≡ 0 ⌝ }
     ensures { λ _. ⌜ now (answer .exit) ≡ bytesWith what action w ⌝ }
 {
@@ -46,6 +50,7 @@ fn put_with(answer: &mut [u8], what: u8, action: u8, w: Csw) -> u8
 // An answer of recovery, into an area of 10 bytes; its number.
 pub fn put(answer: &mut [u8], r: Recovered) -> u8
     requires { ⌜ length (now answer) ≡ 10 ⌝ }
+    requires { ⌜ RecoveredLow r ⌝ }
     ensures { λ n. ⌜ n ≡ replyNumber r ⌝ }
     ensures { λ _. ⌜ now (answer .exit) ≡ replyAfter (now (answer .entry)) r ⌝ }
 {

@@ -1,11 +1,11 @@
 -- What a read comes to, from the tests that the code makes.
---   checked-low, ended-low                 a CSW can show the CCW of each end
+--   checked-low, ended-low, ended-left     a CSW can show the CCW of each end, and its count left
 --   settled-checked .. settled-onward      a read without fault
 --   excepted-checked, excepted-ended       one of a data area of length 0
 --   faulted-checked, faulted-ended         one of a faulted data area
 --   cut-low                                the numbers of the cut fit a report
 --   through                                from the places that a walk found to what was carried
-use Prim.Native.Nat.{ℕ, _+_}
+use Prim.Native.Nat.{ℕ, _<_}
 use native.Mathlib.Omega.{arith}
 use mathlib.Core.Path.{_≡_, ap, sym, subst, _∙_}
 use mathlib.Core.Bool.{Bool, true, false}
@@ -19,7 +19,7 @@ use Rattle.faults.specs.FaultAt.{faultFrom}
 use Rattle.channel.specs.declared.Ccw.{Ccw}
 use Rattle.channel.specs.declared.Csw.{Csw}
 use Rattle.channel.specs.declared.Location.{Location}
-use Rattle.channel.specs.Ccw.{next, addressOf}
+use Rattle.channel.specs.Ccw.{next}
 use Rattle.channel.specs.Store.{store}
 use Rattle.channel.specs.Walk.{Walk, walked, stopped, incorrectLength}
 use Rattle.transfer.specs.declared.Moved.{Moved}
@@ -32,14 +32,17 @@ use Rattle.command.specs.declared.Status.the-variants.{Quiet}
 use Rattle.command.specs.declared.Cut.{Cut}
 use Rattle.command.specs.declared.Answer.{Answer}
 use Rattle.command.specs.declared.Answer.the-variants.{Ends, Cuts}
-use Rattle.command.specs.Answer.{answerOf, Answers, Low, CutLow}
+use Rattle.command.specs.Answer.{answerOf, Answers, Low, CswLow, CutLow}
 use Rattle.settle.specs.Settle.{walkOf, LowMoved, StruckLow, Settles, Excepts, Strikes}
 
 pub checked-low : (m : Moved) (l : Location) → m ≡ Checked l → LowMoved m → Low l
 checked-low m l e h = subst LowMoved e h
 
 pub ended-low : (m : Moved) (l : Location) (c : Ccw) (n : ℕ) (over : Bool) → m ≡ Ended l c n over → LowMoved m → Low l
-ended-low m l c n over e h = subst LowMoved e h
+ended-low m l c n over e h = subst LowMoved e h .0
+
+pub ended-left : (m : Moved) (l : Location) (c : Ccw) (n : ℕ) (over : Bool) → m ≡ Ended l c n over → LowMoved m → n < 0x10000
+ended-left m l c n over e h = subst LowMoved e h .1
 
 abbrev quiet : Csw → Drive → Answer
 quiet w d = Ends (record { csw = w; status = Quiet; mask = d .mask })
@@ -62,11 +65,8 @@ told first p f n d over w = record {
 abbrev cut : Location → Place → Listed → ℕ → Drive → Bool → Csw → Answer
 cut first p f n d over w = Cuts (told first p f n d over w)
 
-pub cut-low : (first l : Location) (p : Place) (f : Listed) (n : ℕ) (d : Drive) (over : Bool) (w : Csw) (unit channel left : ℕ)
-    → StruckLow first p f n → Low l → w ≡ Step.cswAt l unit channel left → CutLow (told first p f n d over w)
-unfolding Step.cswAt
-cut-low first l p f n d over w unit channel left s h e =
-    let a : w .address ≡ addressOf l + 8 = ap (λ (q : Csw). q .address) e in
+pub cut-low : (first : Location) (p : Place) (f : Listed) (n : ℕ) (d : Drive) (over : Bool) (w : Csw) → StruckLow first p f n → CswLow w → CutLow (told first p f n d over w)
+cut-low first p f n d over w s h =
     record {
       cylinder = s .place .cylinder;
       head = s .place .head;
@@ -74,7 +74,7 @@ cut-low first l p f n d over w unit channel left s h e =
       restart-low = omega (arith, s .few);
       error-low = omega (arith, s .few, s .inside);
       first-low = s .first-low;
-      csw-low = omega (arith, a, h);
+      csw-low = h;
     }
 
 module _ (d : Drive) (m : Moved) (r : Answer) (l : Location) where

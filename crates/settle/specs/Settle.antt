@@ -24,9 +24,9 @@ abbrev pub walkOf : List (Option ℕ) → Moved → Walk
 walkOf ps (Ended l c left over) = walked ps l c left over
 walkOf ps (Checked l) = stopped ps l
 
--- a CSW can show the CCW that the read ended with
+-- a CSW can show the CCW that the read ended with, and its count left
 abbrev pub LowMoved : Moved → Type 0
-LowMoved (Ended l c left over) = Low l
+LowMoved (Ended l c left over) = Low l × (left < 0x10000)
 LowMoved (Checked l) = Low l
 
 -- the track and number of a record, as its count area has them

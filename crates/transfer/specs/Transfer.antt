@@ -1,5 +1,5 @@
 -- What a read leaves: how its data chain ended, and storage behind it.
-use Prim.Native.Nat.{ℕ, _+_}
+use Prim.Native.Nat.{ℕ, _+_, _<_}
 use mathlib.Core.Path.{_≡_}
 use mathlib.Core.List.{List, _++_}
 use lib.ListN.{length, take, drop}
@@ -31,6 +31,11 @@ transferred p l c bs st = carried (walk p (length st) (length bs) l c (c .count)
 -- the read's code sees the chain and the restart program alone
 abbrev pub Transfers : List ℕ → List ℕ → Location → Ccw → List ℕ → List ℕ → Left → Type 0
 Transfers s r l c bs st x = (p : Lent) → p .chain ≡ s → p .program ≡ r → x ≡ transferred p l c bs st
+
+-- the count left of the CCW that a read ended with is in two bytes, as its count was
+abbrev pub CountLow : Moved → Type 0
+CountLow (Ended l c n over) = n < 0x10000
+CountLow (Checked l) = Unit {0}
 
 -- n bytes under one CCW: at its address, or nowhere where it skips
 unfoldable pub stretched : Ccw → List ℕ → ℕ → List ℕ → List ℕ

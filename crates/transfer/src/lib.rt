@@ -9,7 +9,7 @@ ghost use lib.ListN.{length, drop};
 ghost use Rattle.channel.specs.Ccw.{next};
 ghost use Rattle.channel.specs.Walk.{readable};
 ghost use Rattle.channel.specs.Fetch.{InBytes, Inside};
-ghost use Rattle.transfer.specs.Transfer.{left, Transfers, stretched};
+ghost use Rattle.transfer.specs.Transfer.{left, Transfers, CountLow, stretched};
 
 // How a read's data chain ended: at a CCW with its count left, and whether bytes were left over; or by a program check,
 // with the CCW that was fetched last.
@@ -63,6 +63,7 @@ pub fn transfer(
     requires { ⌜ readable (length (now storage)) c ≡ true ⌝ }
     requires { ⌜ length (now bytes) ≤ 16384 ⌝ }
     ensures { λ r. ⌜ Transfers (now (chain .entry)) (now (program .entry)) l c (now (bytes .entry)) (now (storage .entry)) (left r (now (storage .exit))) ⌝ }
+    ensures { λ r. ⌜ CountLow r ⌝ }
 {
     let mut here = l;
     let mut word = c;

@@ -12,7 +12,7 @@ use Rattle.channel.specs.Ccw.{Lent}
 use Rattle.drive.specs.Step as Step
 use Rattle.drive.specs.Run.{ticFirst, runFrom}
 use Rattle.command.specs.declared.State.{State}
-use Rattle.command.specs.Answer.{stateOf, endOf, cutOf, settingOf, Low, CutLow}
+use Rattle.command.specs.Answer.{stateOf, endOf, cutOf, settingOf, CswLow, StateLow, CutLow}
 use Rattle.execute.specs.Executes.{lentOf}
 use Rattle.trial.specs.declared.Ran.{Ran}
 use Rattle.trial.specs.declared.Ran.the-variants.{Ended, Cut, Limited}
@@ -23,11 +23,11 @@ ranOf (Ended e) st = ended (endOf e st)
 ranOf (Cut k) st = cut (cutOf k st)
 ranOf (Limited s) st = limit (stateOf s st)
 
--- the CCW that was fetched last has an address that a CSW can show; a cut fits a report
+-- what a run shows fits its bytes
 abbrev pub RanLow : Ran → Type 0
-RanLow (Ended e) = Unit {0}
+RanLow (Ended e) = CswLow (e .csw)
 RanLow (Cut k) = CutLow k
-RanLow (Limited s) = Low (s .last)
+RanLow (Limited s) = StateLow s
 
 -- whether a run begins with a TIC: its code sees the chain and the restart program alone
 abbrev pub TicsFirst : (chain program : List ℕ) → Location → Bool → Type 0

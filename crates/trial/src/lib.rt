@@ -14,7 +14,7 @@ ghost use mathlib.Core.Path.{_≡_};
 ghost use Prim.Native.Nat.{_≤_};
 ghost use lib.ListN.{length};
 ghost use Rattle.position.specs.Standing.{Standing};
-ghost use Rattle.command.specs.Answer.{Low};
+ghost use Rattle.command.specs.Answer.{Low, StateLow};
 ghost use Rattle.execute.specs.Executes.{lentOf, Begun};
 ghost use Rattle.trial.specs.Run.{TicsFirst, RunsOn, Runs, RanLow};
 ghost use Rattle.trial.specs.Trial.{runCall, restartCall, conclusionOf, TrialLow};
@@ -58,7 +58,7 @@ fn run_on(
 ) -> Ran
     requires { ⌜ Begun (now chain) (now program) (now image) (now faults) ⌝ }
     requires { ⌜ Standing (now image) (s .drive) ⌝ }
-    requires { ⌜ Low (s .last) ⌝ }
+    requires { ⌜ StateLow s ⌝ }
     ensures { λ r. ⌜ RunsOn (now (chain .entry)) (now (arguments .entry)) (now (program .entry)) (now (restarts .entry)) (now (image .entry)) (now (faults .entry)) limit s (now (storage .entry)) r (now (storage .exit)) ⌝ }
     ensures { λ r. ⌜ RanLow r ⌝ }
 {

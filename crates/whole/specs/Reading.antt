@@ -1,6 +1,6 @@
 -- The whole reading as a call: the questions that it asks first, what it answers, and every area that it may write (document 01, "Bounds of
 -- the work").
-use Prim.Native.Nat.{ℕ, _+_, _*_, _≤_}
+use Prim.Native.Nat.{ℕ, _+_, _*_, _<_, _≤_}
 use mathlib.Core.Path.{_≡_}
 use mathlib.Core.Bool.{Bool, _&&_}
 use mathlib.Core.List.{List, [], _∷_, _++_}
@@ -18,13 +18,14 @@ use Rattle.faults.specs.Faults.{faultsAt, soundFaults}
 use Rattle.machine.specs.Reading.{Log, ends, limited, exhausted, stops}
 use Rattle.channel.specs.declared.Csw.{Csw}
 use Rattle.drive.specs.Run.{limitCsw}
-use Rattle.command.specs.Answer.{settingOf}
+use Rattle.command.specs.Answer.{settingOf, CswLow}
 use Rattle.execute.specs.Executes.{lentOf}
 use Rattle.recovery.specs.Table.{rows}
 use Rattle.law.specs.WholeReading.{Entry, Restarted, Whole, wholeReading}
 use Rattle.cut.specs.Entry.{entryBytes, stoppedNumber}
 use Rattle.whole.specs.declared.How.{How}
 use Rattle.whole.specs.declared.How.the-variants.{Ended, Limited, Stop}
+use Rattle.whole.specs.declared.Over as Code
 use Rattle.whole.specs.declared.Outcome.{Outcome}
 use Rattle.whole.specs.declared.Outcome.the-variants.{Refused, Over}
 
@@ -99,3 +100,12 @@ readingCall chain arguments st image faults extent n p a l =
 abbrev pub MadeWithin : ℕ → Outcome → Type 0
 MadeWithin n (Refused q) = Unit {0}
 MadeWithin n (Over o) = o .made ≤ n
+
+-- what a reading ends with fits its bytes
+pub record OverLow (o : Code.Over) : Type 0 where
+  pub csw-low : CswLow (o .csw)
+  pub made-low : o .made < 0x10000
+
+abbrev pub OutcomeLow : Outcome → Type 0
+OutcomeLow (Refused q) = Unit {0}
+OutcomeLow (Over o) = OverLow o

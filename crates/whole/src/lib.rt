@@ -11,7 +11,7 @@ ghost use Prim.Native.Nat.{_*_, _≤_};
 ghost use lib.ListN.{length};
 ghost use Rattle.execute.specs.Executes.{Begun};
 ghost use Rattle.trial.specs.Run.{RanLow};
-ghost use Rattle.whole.specs.Reading.{behind, readingAreas, readingCall, MadeWithin};
+ghost use Rattle.whole.specs.Reading.{behind, readingAreas, readingCall, MadeWithin, OverLow, OutcomeLow};
 ghost use Rattle.cut.specs.Cut.{Lendable, lentAreas};
 ghost use Rattle.whole.specs.On.{ReadsOn};
 
@@ -55,6 +55,7 @@ fn read_on(
     requires { ⌜ limit * 6 ≤ length (now list) ⌝ }
     ensures { λ r. ⌜ ReadsOn (now (chain .entry)) (now (arguments .entry)) (now (image .entry)) (now (faults .entry)) x limit first (lentAreas (now (storage .entry)) (now (program .entry)) (now (restarts .entry)) (now (list .entry))) r (lentAreas (now (storage .exit)) (now (program .exit)) (now (restarts .exit)) (now (list .exit))) ⌝ }
     ensures { λ r. ⌜ r .made ≤ limit ⌝ }
+    ensures { λ r. ⌜ OverLow r ⌝ }
 {
     let mut ran = first;
     let mut made = 0;
@@ -166,6 +167,7 @@ pub fn read(
 ) -> Outcome
     ensures { λ r. ⌜ behind r (now (storage .exit)) (now (program .exit)) (now (restarts .exit)) (now (list .exit)) ≡ readingCall (now (chain .entry)) (now (arguments .entry)) (now (storage .entry)) (now (image .entry)) (now (faults .entry)) (now (extent .entry)) limit (now (program .entry)) (now (restarts .entry)) (now (list .entry)) ⌝ }
     ensures made { λ r. ⌜ MadeWithin limit r ⌝ }
+    ensures low { λ r. ⌜ OutcomeLow r ⌝ }
 {
     if !areas_fit(
         chain.len(),

@@ -8,19 +8,19 @@ enum-known-r : tie.Need-enum-known-r
 enum-known-r c = search needs
 
 put-end-requires : tie.Need-put-end-requires
-put-end-requires c κs = search needs
+put-end-requires c κs = let pre = c .before .before .before .before .before .pre in (pre .0, rw (c .before .before .r .given .1) at (pre .1))
 
 enum-known-r-2 : tie.Need-enum-known-r-2
 enum-known-r-2 c = search needs
 
 put-cut-requires : tie.Need-put-cut-requires
-put-cut-requires c κs = search needs
+put-cut-requires c κs = let pre = c .before .before .before .before .before .pre in (pre .0, rw (c .before .before .r2 .given .1) at (pre .1))
 
 enum-known-r-3 : tie.Need-enum-known-r-3
 enum-known-r-3 c = search needs
 
 csw-at-requires : tie.Need-csw-at-requires
-csw-at-requires c κs = rw (c .before .before .before .r3 .given .1) at (c .before .before .before .before .before .before .pre .1)
+csw-at-requires c κs = let low = rw (c .before .before .before .r3 .given .1) at (c .before .before .before .before .before .before .pre .1) in (low .last-low, low .left-low)
 
 put-end-requires-2 : tie.Need-put-end-requires-2
 put-end-requires-2 c κs = search needs
@@ -41,7 +41,7 @@ same-length-3 : tie.Need-same-length-3
 same-length-3 c = search needs
 
 returns-3 : tie.Need-returns-3
-returns-3 c = rw (c .before .before .before .before .before .before .before .r3 .given .1) (limit-so (c .before .before .before .before .before .before .before .r3 .given .0 .0) _ _ (c .before .before .before .csw-at .ensures) (c .before .before .put-end2 .ensures))
+returns-3 c = rw (c .before .before .before .before .before .before .before .r3 .given .1) (limit-so (c .before .before .before .before .before .before .before .r3 .given .0 .0) _ _ (c .before .before .before .csw-at .ensures .0) (c .before .before .put-end2 .ensures))
 
 pub put-spec : {M : Type 1} → statement M
 put-spec =

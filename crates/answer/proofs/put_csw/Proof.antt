@@ -1,35 +1,24 @@
--- `answer::put_csw` meets its contract: each byte is a number's low eight bits. Assumes nothing.
-use Rattle.answer.proofs.Written.{csw-written}
+-- `answer::put_csw` meets its contract: each byte is a number's, and the numbers fit. Assumes nothing.
+use Rattle.base.specs.Bytes.{two, three}
+use Rattle.channel.specs.Csw.{cswBytes}
 use borrow.Author.Needs.{needs}
 use Rattle.answer.proofs.put_csw.Statement.{statement}
 use Rattle.answer.proofs.put_csw.Tie as tie
 
-low-requires : tie.Need-low-requires
-low-requires c κs = search needs
+cast-t8 : tie.Need-cast-t8
+cast-t8 c = search needs
 
-low-requires-2 : tie.Need-low-requires-2
-low-requires-2 c κs = search needs
+cast-t11 : tie.Need-cast-t11
+cast-t11 c = search needs
 
-low-requires-3 : tie.Need-low-requires-3
-low-requires-3 c κs = search needs
+cast-t13 : tie.Need-cast-t13
+cast-t13 c = search needs
 
-wide-requires : tie.Need-wide-requires
-wide-requires c κs = search needs
+cast-t15 : tie.Need-cast-t15
+cast-t15 c = search needs
 
-low-requires-4 : tie.Need-low-requires-4
-low-requires-4 c κs = search needs
-
-wide-requires-2 : tie.Need-wide-requires-2
-wide-requires-2 c κs = search needs
-
-low-requires-5 : tie.Need-low-requires-5
-low-requires-5 c κs = search needs
-
-low-requires-6 : tie.Need-low-requires-6
-low-requires-6 c κs = search needs
-
-low-requires-7 : tie.Need-low-requires-7
-low-requires-7 c κs = search needs
+cast-t17 : tie.Need-cast-t17
+cast-t17 c = search needs
 
 slice-aggregate-put : tie.Need-slice-aggregate-put
 slice-aggregate-put c = search needs
@@ -41,23 +30,18 @@ same-length : tie.Need-same-length
 same-length c = search needs
 
 returns : tie.Need-returns
-returns c =
-    csw-written _ (c .before .before .before .before .before .before .before .before .before .before .before .before .before .before .before .before .before .before .args .to .now) _ (c .before .before .before .before .before .before .before .before .before .before .before .before .before .before .low .ensures) (c .before .before .before .before .before .before .before .before .before .before .before .before .low2 .ensures) (c .before .before .before .before .before .before .before .before .before .before .before .low3 .ensures) (c .before .before .before .before .before .before .before .before .before .before .wide .ensures .0) (c .before .before .before .before .before .before .before .before .before .low4 .ensures) (c .before .before .before .before .before .before .before .before .wide2 .ensures .0) (c .before .before .before .before .before .before .before .low5 .ensures)
-    (c .before .before .before .before .before .low6 .ensures) (c .before .before .before .before .low7 .ensures) (c .before .before .put .ensures)
+unfolding cswBytes three two
+returns c = c .before .before .put .ensures
 
 pub put-csw-spec : {M : Type 1} → statement M
 put-csw-spec =
     tie.close
     (tie.spec
-    low-requires
-    low-requires-2
-    low-requires-3
-    wide-requires
-    low-requires-4
-    wide-requires-2
-    low-requires-5
-    low-requires-6
-    low-requires-7
+    cast-t8
+    cast-t11
+    cast-t13
+    cast-t15
+    cast-t17
     slice-aggregate-put
     put-requires
     same-length

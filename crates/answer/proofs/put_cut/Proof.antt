@@ -6,7 +6,7 @@ use Rattle.drive.specs.Step as Step
 use Rattle.command.specs.Answer.{cutOf}
 use Rattle.channel.specs.Csw.{cswBytes}
 use Rattle.answer.specs.Answer.{maskBytes}
-use Rattle.answer.proofs.Whole.{csw-length, cut-length, last-length, last-like, whole}
+use Rattle.answer.proofs.Whole.{csw-length, cut-length, last-length, whole}
 use borrow.Author.Needs.{needs}
 use Rattle.answer.proofs.put_cut.Statement.{statement}
 use Rattle.answer.proofs.put_cut.Tie as tie
@@ -35,8 +35,8 @@ part-put-last-start c = search needs
 part-put-last-end : tie.Need-part-put-last-end
 part-put-last-end c = search needs
 
-low-address-requires : tie.Need-low-address-requires
-low-address-requires c κs = search needs
+address-of-requires : tie.Need-address-of-requires
+address-of-requires c κs = search needs
 
 put-last-requires : tie.Need-put-last-requires
 put-last-requires c κs = search needs
@@ -48,9 +48,9 @@ returns : tie.Need-returns
 returns c =
     let start = c .before .before .before .before .before .before .before .before .before .before .before .before .before .before in
     let k = start .args .k in
-    let l = last-like (k .mask) _ _ (c .before .before .before .low-address .ensures) in
-    whole (cswBytes (k .csw)) (Step.cutSense (cutOf k [])) (maskBytes (k .mask) ++ two (addressOf (k .first))) (start .args .answer .now) _ _ (start .pre)
-    (csw-length (k .csw)) (cut-length k) (last-length (k .mask) _) (c .before .before .before .before .before .before .before .before .before .before .before .put-csw .ensures) (c .before .before .before .before .before .before .before .put-cut-sense .ensures .0) _ (rw l at (c .before .before .put-last .ensures))
+    let last = rw (c .before .before .before .address-of .ensures) at (c .before .before .put-last .ensures) in
+    whole (start .args .answer .now) (cswBytes (k .csw)) (Step.cutSense (cutOf k [])) (maskBytes (k .mask) ++ two (addressOf (k .first))) (start .pre .0) (csw-length (k .csw)) (cut-length k)
+    (last-length (k .mask) _) _ _ (c .before .before .before .before .before .before .before .before .before .before .before .put-csw .ensures) (c .before .before .before .before .before .before .before .put-cut-sense .ensures) _ last
 
 pub put-cut-spec : {M : Type 1} → statement M
 put-cut-spec =
@@ -64,7 +64,7 @@ put-cut-spec =
     sub-put-last
     part-put-last-start
     part-put-last-end
-    low-address-requires
+    address-of-requires
     put-last-requires
     same-length
     returns)

@@ -43,7 +43,7 @@ returns : tie.Need-returns
 returns c =
     let start = c .before .before .before .before .before .before .before .before .before .before .before .before .before in
     let a = start .args in
-    whole (cswBytes (a .w)) (senseOf (a .s)) (maskBytes (a .mask) ++ two 0) (a .answer .now) _ _ (start .pre) (csw-length (a .w)) (status-length (a .s)) (last-length (a .mask) 0)
+    whole (a .answer .now) (cswBytes (a .w)) (senseOf (a .s)) (maskBytes (a .mask) ++ two 0) (start .pre .0) (csw-length (a .w)) (status-length (a .s)) (last-length (a .mask) 0) _ _
     (c .before .before .before .before .before .before .before .before .before .before .put-csw .ensures) (c .before .before .before .before .before .before .put-status .ensures) _ (c .before .before .put-last .ensures)
 
 pub put-end-spec : {M : Type 1} → statement M

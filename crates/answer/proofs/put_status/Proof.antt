@@ -1,6 +1,5 @@
 -- `answer::put_status` meets its contract by cases of the status. Assumes nothing.
 use Rattle.drive.specs.Step as Step
-use Rattle.answer.specs.Answer.{lowered}
 use borrow.Author.Needs.{needs}
 use Rattle.answer.proofs.put_status.Statement.{statement}
 use Rattle.answer.proofs.put_status.Tie as tie
@@ -36,28 +35,28 @@ same-length : tie.Need-same-length
 same-length c = search needs
 
 returns : tie.Need-returns
-unfolding lowered Step.noSense Step.checkSense
+unfolding Step.noSense Step.checkSense
 returns c = rw (c .before .before .before .before .enum-told .given .1) (c .before .before .put-check .ensures)
 
 same-length-2 : tie.Need-same-length-2
 same-length-2 c = search needs
 
 returns-2 : tie.Need-returns-2
-unfolding lowered Step.noSense Step.checkSense
+unfolding Step.noSense Step.checkSense
 returns-2 c = rw (c .before .before .before .before .before .before .before .s .given .1, c .before .before .before .before .enum-told2 .given .1) (c .before .before .put-check2 .ensures)
 
 same-length-3 : tie.Need-same-length-3
 same-length-3 c = search needs
 
 returns-3 : tie.Need-returns-3
-unfolding lowered Step.noSense Step.checkSense
+unfolding Step.noSense Step.checkSense
 returns-3 c = rw (c .before .before .before .before .before .before .before .s .given .1, c .before .before .before .before .enum-told3 .given .1) (c .before .before .put-check3 .ensures)
 
 same-length-4 : tie.Need-same-length-4
 same-length-4 c = search needs
 
 returns-4 : tie.Need-returns-4
-unfolding lowered Step.noSense Step.checkSense
+unfolding Step.noSense Step.checkSense
 returns-4 c = rw (c .before .before .before .before .before .before .before .s .given .1, c .before .before .before .before .enum-told4 .given .1) (c .before .before .put-check4 .ensures)
 
 pub put-status-spec : {M : Type 1} → statement M

@@ -1,4 +1,5 @@
 -- `command::csw_at` meets its contract: the address is the CCW's and 8. Assumes nothing.
+use native.Mathlib.Omega.{arith}
 use Rattle.drive.specs.Step as Step
 use borrow.Author.Needs.{needs}
 use Rattle.command.proofs.csw_at.Statement.{statement}
@@ -12,7 +13,7 @@ add-t6 c = search needs
 
 returns : tie.Need-returns
 unfolding Step.cswAt
-returns c = rw (c .address-of .ensures)
+returns c = (rw (c .address-of .ensures), record { address = omega arith; count = omega arith })
 
 pub csw-at-spec : {M : Type 1} → statement M
 csw-at-spec = tie.close (tie.spec address-of-requires add-t6 returns)

@@ -9,7 +9,7 @@ csw-at-requires c κs = search needs
 
 returns : tie.Need-returns
 unfolding Step.refusal
-returns c = (λ st. rw (c .csw-at .ensures), λ image. tt)
+returns c = (λ st. rw (c .csw-at .ensures .0), λ image. c .csw-at .ensures .1)
 
 pub refuse-spec : {M : Type 1} → statement M
 refuse-spec = tie.close (tie.spec csw-at-requires returns)

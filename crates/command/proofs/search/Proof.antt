@@ -51,7 +51,7 @@ examine-requires : tie.Need-examine-requires
 examine-requires c κs = search needs
 
 searched-requires : tie.Need-searched-requires
-searched-requires c κs = search needs
+searched-requires c κs = let pre = c .before .before .before .before .before .before .before .before .before .before .before .pre in (pre .1 .0, pre .1 .1 .0)
 
 returns-2 : tie.Need-returns-2
 returns-2 c =

@@ -11,7 +11,7 @@ behind-requires : tie.Need-behind-requires
 behind-requires c κs = search needs
 
 behind-requires-2 : tie.Need-behind-requires-2
-behind-requires-2 c κs = next-low _ _ (c .behind .ensures) (c .before .before .before .before .pre)
+behind-requires-2 c κs = next-low _ _ (c .behind .ensures) (c .before .before .before .before .pre .0)
 
 onward-requires : tie.Need-onward-requires
 onward-requires c κs = search needs

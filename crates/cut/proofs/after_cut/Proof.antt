@@ -3,7 +3,7 @@ use native.Mathlib.Omega.{arith}
 use mathlib.Core.Path.{_≡_, refl}
 use lib.ListN.{length}
 use Rattle.channel.specs.Ccw.{addressOf}
-use Rattle.cut.proofs.Answered.{again, closed, corrected, refused, one, two, repeated}
+use Rattle.cut.proofs.Answered.{again, closed, closed-low, corrected, refused, one, two, repeated}
 use borrow.Author.Needs.{needs}
 use Rattle.cut.proofs.after_cut.Statement.{statement}
 use Rattle.cut.proofs.after_cut.Tie as tie
@@ -66,9 +66,11 @@ same-length-8 c = search needs
 
 returns-2 : tie.Need-returns-2
 returns-2 c =
-    let a = c .before .before .before .before .before .before .before .before .before .before .before .before .before .before .before .before .before .before .before .before .before .before .before .before .before .args in
+    let start = c .before .before .before .before .before .before .before .before .before .before .before .before .before .before .before .before .before .before .before .before .before .before .before .before .before in
+    let a = start .args in
     let call = c .before .before .before .before .before .before .before .before .before .before .before .before .before .recover-cut in
-    (closed (a .chain .now) (a .x) (a .k) (a .storage .now) (a .program .now) (a .restarts .now) (a .arguments .now) (a .image .now) (a .faults .now) (a .list .now) (a .made) _ _ _ _ _ (rw (c .before .before .before .before .before .w .given .1) at (call .ensures)) (c .before .before .note2 .ensures), tt)
+    let done = rw (c .before .before .before .before .before .w .given .1) at (call .ensures) in
+    (closed (a .chain .now) (a .x) (a .k) (a .storage .now) (a .program .now) (a .restarts .now) (a .arguments .now) (a .image .now) (a .faults .now) (a .list .now) (a .made) _ _ _ _ _ done (c .before .before .note2 .ensures), closed-low (a .chain .now) (a .x) (a .k) (a .storage .now) (a .program .now) (a .restarts .now) _ _ _ _ (start .pre .1 .1 .0 .csw-low) done)
 
 enum-told : tie.Need-enum-told
 enum-told c = search needs
@@ -90,9 +92,10 @@ same-length-12 c = search needs
 
 returns-3 : tie.Need-returns-3
 returns-3 c =
-    let a = c .before .before .before .before .before .before .before .before .before .before .before .before .before .before .before .before .before .before .before .before .before .before .before .before .before .args in
+    let start = c .before .before .before .before .before .before .before .before .before .before .before .before .before .before .before .before .before .before .before .before .before .before .before .before .before in
+    let a = start .args in
     let call = c .before .before .before .before .before .before .before .before .before .before .before .before .before .recover-cut in
-    (corrected (a .chain .now) (a .x) (a .k) (a .storage .now) (a .program .now) (a .restarts .now) (a .arguments .now) (a .image .now) (a .faults .now) (a .list .now) (a .made) _ _ _ _ (rw (c .before .before .before .before .before .enum-told .given .1) at (call .ensures)) (c .before .before .before .note3 .ensures), tt)
+    (corrected (a .chain .now) (a .x) (a .k) (a .storage .now) (a .program .now) (a .restarts .now) (a .arguments .now) (a .image .now) (a .faults .now) (a .list .now) (a .made) _ _ _ _ (rw (c .before .before .before .before .before .enum-told .given .1) at (call .ensures)) (c .before .before .before .note3 .ensures), start .pre .1 .1 .0 .csw-low)
 
 enum-known-q : tie.Need-enum-known-q
 enum-known-q c = search needs

@@ -37,7 +37,7 @@ returns c =
     let start = c .before .before .before .before .before .before .before .before .before .before .before .before .before .before .before .before .before .before .before in
     let a = start .args in
     let sense = c .before .before .before .before .before .before .before .before .before .before .before .before .before .put-cut-sense in
-    reported (a .chain .now) (a .x) (a .k) (a .storage .now) (a .program .now) (a .restarts .now) _ _ _ (sense .ensures .1 (start .pre .1) ∙ append-nil _) (c .before .before .before .before .before .before .before .address-of .ensures) (c .before .before .before .before .before .before .recover-from .ensures)
+    reported (a .chain .now) (a .x) (a .k) (a .storage .now) (a .program .now) (a .restarts .now) _ _ _ (sense .ensures ∙ append-nil _) (c .before .before .before .before .before .before .before .address-of .ensures) (c .before .before .before .before .before .before .recover-from .ensures)
 
 pub recover-cut-spec : {M : Type 1} → statement M
 recover-cut-spec =

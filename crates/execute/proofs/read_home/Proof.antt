@@ -11,7 +11,7 @@ use Rattle.execute.proofs.read_home.Statement.{statement}
 use Rattle.execute.proofs.read_home.Tie as tie
 
 refuse-requires : tie.Need-refuse-requires
-refuse-requires c κs = let ready = c .before .before .before .before .before .before .pre .0 in inside-low _ _ (ready .short) _ (ready .inside)
+refuse-requires c κs = let ready = c .before .before .before .before .before .before .pre .0 in (inside-low _ _ (ready .short) _ (ready .inside), ready .bytes)
 
 returns : tie.Need-returns
 returns c =
@@ -44,7 +44,7 @@ at-index-requires c κs = search needs
 settled-requires : tie.Need-settled-requires
 settled-requires c κs =
     let call = c .before .before .before .transfer in
-    moved-low _ _ _ _ _ _ _ (call .result) (call .ensures) (c .before .before .before .before .before .before .before .before .before .before .before .before .before .before .before .before .before .pre .0)
+    moved-low _ _ _ _ _ _ _ (call .result) (call .ensures .0) (call .ensures .1) (c .before .before .before .before .before .before .before .before .before .before .before .before .before .before .before .before .before .pre .0)
 
 same-length : tie.Need-same-length
 same-length c = search needs
@@ -57,7 +57,7 @@ returns-2 c =
     let call = c .before .before .before .before .transfer in
     let d = driveOf (start .args .d) in
     let st = start .args .storage .now in
-    let ends = ended-so _ _ _ _ (homeBytes d) st _ (call .result) (call .ensures) 5 (Step.settled (homeBytes d) (driveOf (back .result)) st) (c .settled .result) refl (λ ps. c .settled .ensures .0 ps _ _) in
+    let ends = ended-so _ _ _ _ (homeBytes d) st _ (call .result) (call .ensures .0) 5 (Step.settled (homeBytes d) (driveOf (back .result)) st) (c .settled .result) refl (λ ps. c .settled .ensures .0 ps _ _) in
     (home-read _ _ _ _ _ d st (c .settled .result) _ (on .0) _ (start .pre .1 .0) (on .1 .there) (back .ensures .0) ends, c .settled .ensures .1 _ (back .ensures .1))
 
 pub read-home-spec : {M : Type 1} → statement M

@@ -13,7 +13,7 @@ enum-told : tie.Need-enum-told
 enum-told c = search needs
 
 refuse-requires : tie.Need-refuse-requires
-refuse-requires c κs = let ready = c .before .before .before .before .before .before .before .before .pre .0 in inside-low _ _ (ready .short) _ (ready .inside)
+refuse-requires c κs = let ready = c .before .before .before .before .before .before .before .before .pre .0 in (inside-low _ _ (ready .short) _ (ready .inside), ready .bytes)
 
 enum-known-x : tie.Need-enum-known-x
 enum-known-x c = search needs

@@ -37,7 +37,7 @@ faulted-requires : tie.Need-faulted-requires
 faulted-requires c κs =
     let given = c .before .before .before .before .before .before .before .before .before .before .before .before .pre in
     let ready = given .0 in (
-      moved-low _ _ _ _ _ _ _ (c .before .before .transfer .result) (c .before .before .transfer .ensures) ready,
+      moved-low _ _ _ _ _ _ _ (c .before .before .transfer .result) (c .before .before .transfer .ensures .0) (c .before .before .transfer .ensures .1) ready,
       record { place = given .1 .1 .1; few = given .1 .0; inside = given .1 .1 .0; first-low = inside-low _ _ (ready .short) _ (ready .inside) },
     )
 
@@ -52,7 +52,7 @@ returns c =
     let move = c .before .before .before .transfer in
     let n = front-length _ (arrive .last .0) 16384 (arrive .ensures .1) (start .pre .1 .0) in (
       λ y g h.
-          ended-so _ _ _ _ (take (length (a .bytes .now)) (arrive .last .0)) (a .storage .now) _ (move .result) (move .ensures) _
+          ended-so _ _ _ _ (take (length (a .bytes .now)) (arrive .last .0)) (a .storage .now) _ (move .result) (move .ensures .0) _
           (Step.faulted (a .l) y (faultFrom (a .f)) (a .bytes .now) (driveOf (a .e)) (a .storage .now)) (c .faulted .result) n
           (λ ps. c .faulted .ensures .0 ps y (a .bytes .now) (a .storage .now) g h refl ∙ ap (λ s. answerOf (c .faulted .result) (store ps s (a .storage .now))) (sym (arrive .ensures .0))),
       c .faulted .ensures .1,

@@ -38,7 +38,7 @@ returns-2 c =
     let k = recoverCall (a .chain .now) (a .report .now) (a .extent .now) (a .storage .now) (a .program .now) (a .arguments .now) in
     let r = c .before .before .before .before .before .before .before .before .before .before .recover in
     let put = c .before .before .put in
-    area-fits _ (a .storage .now) (a .program .now) (a .arguments .now) k (c .before .before .before .before .before .before .before .before .before .before .before .before .before .before .if1 .left) (r .result) _ _ _ (r .ensures) _ _ (put .ensures .0) (put .ensures .1)
+    area-fits _ (a .storage .now) (a .program .now) (a .arguments .now) k (c .before .before .before .before .before .before .before .before .before .before .before .before .before .before .if1 .left) (r .result) _ _ _ (r .ensures .0) _ _ (put .ensures .0) (put .ensures .1)
 
 pub giruve-recover-spec : {M : Type 1} → statement M
 giruve-recover-spec =

@@ -19,7 +19,7 @@ enum-known-o-2 : tie.Need-enum-known-o-2
 enum-known-o-2 c = search needs
 
 put-over-requires : tie.Need-put-over-requires
-put-over-requires c κs = search needs
+put-over-requires c κs = let pre = c .before .before .before .before .before .pre in (pre .0, rw (c .before .before .o2 .given .1) at (pre .1))
 
 how-number-requires : tie.Need-how-number-requires
 how-number-requires c κs = search needs

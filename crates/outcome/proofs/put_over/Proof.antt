@@ -19,7 +19,7 @@ cast-answer-2 c = search needs
 slice-write-answer-2 : tie.Need-slice-write-answer-2
 slice-write-answer-2 c =
     let start = c .before .before .before .before .before .before .before in
-    second-fits (start .args .o .csw) (start .args .answer .now) _ (start .pre) (c .before .before .before .before .put-csw .ensures) _
+    second-fits (start .args .o .csw) (start .args .answer .now) _ (start .pre .0) (c .before .before .before .before .put-csw .ensures) _
 
 stop-number-requires : tie.Need-stop-number-requires
 stop-number-requires c κs = search needs
@@ -27,7 +27,7 @@ stop-number-requires c κs = search needs
 slice-write-answer-3 : tie.Need-slice-write-answer-3
 slice-write-answer-3 c =
     let start = c .before .before .before .before .before .before .before .before in
-    third-fits (start .args .o .csw) (start .args .answer .now) _ (start .pre) (c .before .before .before .before .before .put-csw .ensures) _ _
+    third-fits (start .args .o .csw) (start .args .answer .now) _ (start .pre .0) (c .before .before .before .before .before .put-csw .ensures) _ _
 
 same-length : tie.Need-same-length
 same-length c = search needs
@@ -35,7 +35,7 @@ same-length c = search needs
 returns : tie.Need-returns
 returns c =
     let start = c .before .before .before .before .before .before .before .before in
-    over-written (start .args .o) (start .args .answer .now) _ _ (start .pre) (c .before .before .before .before .before .put-csw .ensures) (c .stop-number .ensures)
+    over-written (start .args .o) (start .args .answer .now) _ _ (start .pre .0) (c .before .before .before .before .before .put-csw .ensures) (c .stop-number .ensures)
 
 pub put-over-spec : {M : Type 1} → statement M
 put-over-spec =

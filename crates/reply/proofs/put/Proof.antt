@@ -29,7 +29,7 @@ same-length c = search needs
 
 returns-2 : tie.Need-returns-2
 unfolding replyAfter
-returns-2 c = rw (c .before .before .before .before .before .enum-told .given .1) (c .before .before .put-with .ensures .0, c .before .before .put-with .ensures .1 ∙ ap (λ w. bytesWith _ _ w) (c .before .before .before .no-csw .ensures))
+returns-2 c = rw (c .before .before .before .before .before .enum-told .given .1) (c .before .before .put-with .ensures .0, c .before .before .put-with .ensures .1 ∙ ap (λ w. bytesWith _ _ w) (c .before .before .before .no-csw .ensures .0))
 
 enum-told-2 : tie.Need-enum-told-2
 enum-told-2 c = search needs
@@ -45,7 +45,7 @@ same-length-2 c = search needs
 
 returns-3 : tie.Need-returns-3
 unfolding replyAfter
-returns-3 c = rw (c .before .before .before .before .before .enum-told2 .given .1) (c .before .before .put-with2 .ensures .0, c .before .before .put-with2 .ensures .1 ∙ ap (λ w. bytesWith _ _ w) (c .before .before .before .no-csw2 .ensures))
+returns-3 c = rw (c .before .before .before .before .before .enum-told2 .given .1) (c .before .before .put-with2 .ensures .0, c .before .before .put-with2 .ensures .1 ∙ ap (λ w. bytesWith _ _ w) (c .before .before .before .no-csw2 .ensures .0))
 
 enum-told-3 : tie.Need-enum-told-3
 enum-told-3 c = search needs
@@ -61,7 +61,7 @@ same-length-3 c = search needs
 
 returns-4 : tie.Need-returns-4
 unfolding replyAfter
-returns-4 c = rw (c .before .before .before .before .before .enum-told3 .given .1) (c .before .before .put-with3 .ensures .0, c .before .before .put-with3 .ensures .1 ∙ ap (λ w. bytesWith _ _ w) (c .before .before .before .no-csw3 .ensures))
+returns-4 c = rw (c .before .before .before .before .before .enum-told3 .given .1) (c .before .before .put-with3 .ensures .0, c .before .before .put-with3 .ensures .1 ∙ ap (λ w. bytesWith _ _ w) (c .before .before .before .no-csw3 .ensures .0))
 
 enum-told-4 : tie.Need-enum-told-4
 enum-told-4 c = search needs
@@ -77,13 +77,13 @@ same-length-4 c = search needs
 
 returns-5 : tie.Need-returns-5
 unfolding replyAfter
-returns-5 c = rw (c .before .before .before .before .before .enum-told4 .given .1) (c .before .before .put-with4 .ensures .0, c .before .before .put-with4 .ensures .1 ∙ ap (λ w. bytesWith _ _ w) (c .before .before .before .no-csw4 .ensures))
+returns-5 c = rw (c .before .before .before .before .before .enum-told4 .given .1) (c .before .before .put-with4 .ensures .0, c .before .before .put-with4 .ensures .1 ∙ ap (λ w. bytesWith _ _ w) (c .before .before .before .no-csw4 .ensures .0))
 
 enum-known-r-2 : tie.Need-enum-known-r-2
 enum-known-r-2 c = search needs
 
 put-with-requires-5 : tie.Need-put-with-requires-5
-put-with-requires-5 c κs = search needs
+put-with-requires-5 c κs = let pre = c .before .before .before .before .before .pre in (pre .0, rw (c .before .before .r2 .given .1) at (pre .1))
 
 same-length-5 : tie.Need-same-length-5
 same-length-5 c = search needs
@@ -109,7 +109,7 @@ same-length-6 c = search needs
 
 returns-7 : tie.Need-returns-7
 unfolding replyAfter
-returns-7 c = rw (c .before .before .before .before .before .before .before .r3 .given .1) (c .before .before .put-with6 .ensures .0, c .before .before .put-with6 .ensures .1 ∙ ap₂ (bytesWith 6) (c .before .before .before .before .action-number .ensures) (c .before .before .before .no-csw5 .ensures))
+returns-7 c = rw (c .before .before .before .before .before .before .before .r3 .given .1) (c .before .before .put-with6 .ensures .0, c .before .before .put-with6 .ensures .1 ∙ ap₂ (bytesWith 6) (c .before .before .before .before .action-number .ensures) (c .before .before .before .no-csw5 .ensures .0))
 
 pub put-spec : {M : Type 1} → statement M
 put-spec =

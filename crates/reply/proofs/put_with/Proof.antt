@@ -4,7 +4,6 @@ use Prim.Native.Nat.{_-_}
 use mathlib.Core.Path.{_≡_, refl, ap, sym, _∙_}
 use lib.ListN.{length, set, take, drop, length-take, length-drop}
 use Rattle.channel.specs.Csw.{cswBytes}
-use Rattle.answer.specs.Answer.{lowered}
 use Rattle.reply.proofs.Bytes.{two-kept, put-behind, put-behind-kept}
 use Rattle.answer.proofs.Whole.{csw-length}
 use borrow.Author.Needs.{needs}
@@ -18,26 +17,26 @@ slice-write-answer-2 : tie.Need-slice-write-answer-2
 slice-write-answer-2 c = search needs
 
 sub-put-csw : tie.Need-sub-put-csw
-sub-put-csw c = let n = (two-kept (c .before .args .answer .now) (c .before .args .what) (c .before .args .action) ∙ c .before .pre) in omega arith
+sub-put-csw c = let n = (two-kept (c .before .args .answer .now) (c .before .args .what) (c .before .args .action) ∙ c .before .pre .0) in omega arith
 
 part-put-csw-start : tie.Need-part-put-csw-start
-part-put-csw-start c = let n = (two-kept (c .before .args .answer .now) (c .before .args .what) (c .before .args .action) ∙ c .before .pre) in omega arith
+part-put-csw-start c = let n = (two-kept (c .before .args .answer .now) (c .before .args .what) (c .before .args .action) ∙ c .before .pre .0) in omega arith
 
 part-put-csw-end : tie.Need-part-put-csw-end
 part-put-csw-end c = search needs
 
 put-csw-requires : tie.Need-put-csw-requires
-put-csw-requires c κs = let n = (two-kept (c .before .before .args .answer .now) (c .before .before .args .what) (c .before .before .args .action) ∙ c .before .before .pre) in simp (length-take, length-drop) (omega arith)
+put-csw-requires c κs = let n = (two-kept (c .before .before .args .answer .now) (c .before .before .args .what) (c .before .before .args .action) ∙ c .before .before .pre .0) in (simp (length-take, length-drop) (omega arith), c .before .before .pre .1)
 
 same-length : tie.Need-same-length
 same-length c =
     let a = c .before .before .before .before .before .args in
-    put-behind-kept (a .answer .now) (a .what) (a .action) (lowered (cswBytes (a .w))) _ (c .before .before .before .before .before .pre) (csw-length (a .w)) (c .before .before .put-csw .ensures)
+    put-behind-kept (a .answer .now) (a .what) (a .action) (cswBytes (a .w)) _ (c .before .before .before .before .before .pre .0) (csw-length (a .w)) (c .before .before .put-csw .ensures)
 
 returns : tie.Need-returns
 returns c =
     let a = c .before .before .before .before .before .args in
-    (refl, put-behind (a .answer .now) (a .what) (a .action) (lowered (cswBytes (a .w))) _ (c .before .before .before .before .before .pre) (c .before .before .put-csw .ensures))
+    (refl, put-behind (a .answer .now) (a .what) (a .action) (cswBytes (a .w)) _ (c .before .before .before .before .before .pre .0) (c .before .before .put-csw .ensures))
 
 pub put-with-spec : {M : Type 1} → statement M
 put-with-spec =

@@ -65,7 +65,7 @@ slice-aggregate-put : tie.Need-slice-aggregate-put
 slice-aggregate-put c = search needs
 
 put-requires : tie.Need-put-requires
-put-requires c κs = (c .before .before .before .before .before .before .before .before .read .ensures .1, (search needs, search needs))
+put-requires c κs = (c .before .before .before .before .before .before .before .before .read .ensures .1 .0, (search needs, search needs))
 
 same-length : tie.Need-same-length
 same-length c = search needs

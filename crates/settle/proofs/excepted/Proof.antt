@@ -1,5 +1,5 @@
 -- `settle::excepted` meets its contract: by how the data chain ended. Assumes nothing.
-use Rattle.settle.proofs.Ends.{checked-low, ended-low, excepted-checked, excepted-ended}
+use Rattle.settle.proofs.Ends.{checked-low, ended-low, ended-left, excepted-checked, excepted-ended}
 use borrow.Author.Needs.{needs}
 use Rattle.settle.proofs.excepted.Statement.{statement}
 use Rattle.settle.proofs.excepted.Tie as tie
@@ -27,7 +27,8 @@ length-status-requires c κs = search needs
 csw-at-requires : tie.Need-csw-at-requires
 csw-at-requires c κs =
     let m = c .before .before .before .m2 .given in
-    ended-low _ _ _ _ _ (m .1) (c .before .before .before .before .before .pre)
+    let pre = c .before .before .before .before .before .pre in
+    (ended-low _ _ _ _ _ (m .1) pre, ended-left _ _ _ _ _ (m .1) pre)
 
 returns-2 : tie.Need-returns-2
 returns-2 c =
@@ -35,7 +36,7 @@ returns-2 c =
     let wrong = c .before .before .incorrect-length in
     let m = c .before .before .before .before .m2 .given in
     let given = c .before .before .before .before .before .before .args in
-    (excepted-ended (given .d) _ _ _ _ _ (m .1) (wrong .result) (status .result) _ (wrong .ensures) (status .ensures) (c .csw-at .ensures), λ image. tt)
+    (excepted-ended (given .d) _ _ _ _ _ (m .1) (wrong .result) (status .result) _ (wrong .ensures) (status .ensures) (c .csw-at .ensures .0), λ image. c .csw-at .ensures .1)
 
 pub excepted-spec : {M : Type 1} → statement M
 excepted-spec =

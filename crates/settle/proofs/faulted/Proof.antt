@@ -1,5 +1,5 @@
 -- `settle::faulted` meets its contract: by how the data chain ended. Assumes nothing.
-use Rattle.settle.proofs.Ends.{checked-low, ended-low, faulted-checked, faulted-ended, cut-low}
+use Rattle.settle.proofs.Ends.{checked-low, ended-low, ended-left, faulted-checked, faulted-ended, cut-low}
 use borrow.Author.Needs.{needs}
 use Rattle.settle.proofs.faulted.Statement.{statement}
 use Rattle.settle.proofs.faulted.Tie as tie
@@ -27,7 +27,8 @@ length-status-requires c κs = search needs
 csw-at-requires : tie.Need-csw-at-requires
 csw-at-requires c κs =
     let m = c .before .before .before .before .m2 .given in
-    ended-low _ _ _ _ _ (m .1) (c .before .before .before .before .before .before .pre .0)
+    let pre = c .before .before .before .before .before .before .pre .0 in
+    (ended-low _ _ _ _ _ (m .1) pre, ended-left _ _ _ _ _ (m .1) pre)
 
 returns-2 : tie.Need-returns-2
 returns-2 c =
@@ -36,8 +37,8 @@ returns-2 c =
     let m = c .before .before .before .before .before .m2 .given in
     let start = c .before .before .before .before .before .before .before in
     let given = start .args in (
-      faulted-ended (given .d) _ _ _ _ _ (m .1) (wrong .result) (status .result) _ (wrong .ensures) (status .ensures) _ (given .p) _ _ (c .csw-at .ensures),
-      λ image. cut-low _ _ (given .p) (given .f) _ (given .d) _ (c .csw-at .result) _ _ _ (start .pre .1) (ended-low _ _ _ _ _ (m .1) (start .pre .0)) (c .csw-at .ensures),
+      faulted-ended (given .d) _ _ _ _ _ (m .1) (wrong .result) (status .result) _ (wrong .ensures) (status .ensures) _ (given .p) _ _ (c .csw-at .ensures .0),
+      λ image. cut-low _ (given .p) (given .f) _ (given .d) _ (c .csw-at .result) (start .pre .1) (c .csw-at .ensures .1),
     )
 
 pub faulted-spec : {M : Type 1} → statement M

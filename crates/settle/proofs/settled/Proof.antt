@@ -1,7 +1,7 @@
 -- `settle::settled` meets its contract: by how the data chain ended, and whether the length is incorrect. Assumes nothing.
 use native.Mathlib.Omega.{arith}
 use mathlib.Core.Path.{sym, _∙_}
-use Rattle.settle.proofs.Ends.{checked-low, ended-low, settled-checked, settled-wrong, settled-onward}
+use Rattle.settle.proofs.Ends.{checked-low, ended-low, ended-left, settled-checked, settled-wrong, settled-onward}
 use borrow.Author.Needs.{needs}
 use Rattle.settle.proofs.settled.Statement.{statement}
 use Rattle.settle.proofs.settled.Tie as tie
@@ -26,13 +26,14 @@ incorrect-length-requires c κs = search needs
 csw-at-requires : tie.Need-csw-at-requires
 csw-at-requires c κs =
     let m = c .before .before .before .m2 .given in
-    ended-low _ _ _ _ _ (m .1) (c .before .before .before .before .before .pre)
+    let pre = c .before .before .before .before .before .pre in
+    (ended-low _ _ _ _ _ (m .1) pre, ended-left _ _ _ _ _ (m .1) pre)
 
 returns-2 : tie.Need-returns-2
 returns-2 c =
     let m = c .before .before .before .before .m2 .given in
     let wrong = sym (c .before .before .incorrect-length .ensures) ∙ c .before .if1 .taken in
-    (settled-wrong (c .before .before .before .before .before .before .args .d) _ _ _ _ _ (m .1) _ wrong (c .csw-at .ensures), λ image s. tt)
+    (settled-wrong (c .before .before .before .before .before .before .args .d) _ _ _ _ _ (m .1) _ wrong (c .csw-at .ensures .0), λ image s. c .csw-at .ensures .1)
 
 behind-requires : tie.Need-behind-requires
 behind-requires c κs =
@@ -43,7 +44,8 @@ behind-requires c κs =
 onward-requires : tie.Need-onward-requires
 onward-requires c κs =
     let m = c .before .before .before .before .m2 .given in
-    ended-low _ _ _ _ _ (m .1) (c .before .before .before .before .before .before .pre)
+    let pre = c .before .before .before .before .before .before .pre in
+    (ended-low _ _ _ _ _ (m .1) pre, ended-left _ _ _ _ _ (m .1) pre)
 
 returns-3 : tie.Need-returns-3
 returns-3 c =

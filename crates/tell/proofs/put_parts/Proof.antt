@@ -93,7 +93,7 @@ returns c =
     let call = ccws .before .before .before .before .before .before .before .before in
     let start = call .before .before .before .before .before .before .before .before .before in
     let a = start .args in (
-      parts-put (a .input .now) (a .p) _ _ _ _ (call .recover .ensures) (ccws .put-ccws .ensures .0) (c .before .before .put-reported .ensures .0),
+      parts-put (a .input .now) (a .p) _ _ _ _ (call .recover .ensures .0) (ccws .put-ccws .ensures .0) (c .before .before .put-reported .ensures .0),
       search needs,
     )
 

@@ -52,8 +52,10 @@ returns c =
     let at = c .before .before .before .before .before in
     let i = at .loop .inv in
     let s = at .loop .storage in
-    let m = c .before .before .before .before .before .before .before .before .before .before .args .bytes .now in
-    λ p u v. short-at p (at .loop .here) (at .loop .word) m (at .loop .from) s _ (i .4) (c .before .before .before .before .if1 .taken) (c .before .before .stretch .ensures) ∙ i .5 p u v
+    let m = c .before .before .before .before .before .before .before .before .before .before .args .bytes .now in (
+      λ p u v. short-at p (at .loop .here) (at .loop .word) m (at .loop .from) s _ (i .4) (c .before .before .before .before .if1 .taken) (c .before .before .stretch .ensures) ∙ i .5 p u v,
+      omega (arith, i .2 .count),
+    )
 
 stretch-requires-2 : tie.Need-stretch-requires-2 Inv-loop μ-loop
 stretch-requires-2 c κs =
@@ -79,7 +81,7 @@ returns-2 c =
     let moved = c .before .before .before .before in
     let k = moved .before .before .if1 .left in
     let e = moved .stretch2 .ensures in
-    λ p u v. out-at p (at .loop .here) (at .loop .word) m (at .loop .from) s _ (i .4) k e (sym (c .before .chains-data .ensures) ∙ not-true _ (c .if2 .taken)) ∙ i .5 p u v
+    (λ p u v. out-at p (at .loop .here) (at .loop .word) m (at .loop .from) s _ (i .4) k e (sym (c .before .chains-data .ensures) ∙ not-true _ (c .if2 .taken)) ∙ i .5 p u v, omega arith)
 
 behind-requires : tie.Need-behind-requires Inv-loop μ-loop
 behind-requires c κs = c .before .before .before .before .before .before .before .loop .inv .3
@@ -107,7 +109,7 @@ returns-3 c =
     let f = sym (chains .before .chains-data .ensures) ∙ not-false _ (chains .if2 .left) in
     let found = c .before in
     let q = rw (found .x .given .1, c .before .before .before .before .behind .ensures) at (found .before .before .resolve .ensures .0) in
-    λ p u v. broken-at p (at .loop .here) (at .loop .word) m (at .loop .from) s _ (i .4) k e f _ (q p u v) ∙ i .5 p u v
+    (λ p u v. broken-at p (at .loop .here) (at .loop .word) m (at .loop .from) s _ (i .4) k e f _ (q p u v) ∙ i .5 p u v, tt)
 
 enum-known-x-2 : tie.Need-enum-known-x-2 Inv-loop μ-loop
 enum-known-x-2 c = search needs
@@ -134,7 +136,7 @@ returns-4 c =
     let f = sym (chains .before .chains-data .ensures) ∙ not-false _ (chains .if2 .left) in
     let found = c .before .before .before in
     let q = rw (found .x2 .given .1, c .before .before .before .before .before .before .behind .ensures) at (found .before .before .resolve .ensures .0) in
-    λ p u v. refused-at p (at .loop .here) (at .loop .word) m (at .loop .from) s _ (i .4) k e f _ _ (q p u v) (sym (c .before .readable .ensures) ∙ not-true _ (c .if3 .taken)) ∙ i .5 p u v
+    (λ p u v. refused-at p (at .loop .here) (at .loop .word) m (at .loop .from) s _ (i .4) k e f _ _ (q p u v) (sym (c .before .readable .ensures) ∙ not-true _ (c .if3 .taken)) ∙ i .5 p u v, tt)
 
 loop-less : tie.Need-loop-less Inv-loop μ-loop
 loop-less c =

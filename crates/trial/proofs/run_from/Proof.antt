@@ -15,7 +15,7 @@ csw-at-requires c κs = search needs
 returns : tie.Need-returns
 returns c =
     let t = c .before .before .tic-first .ensures in
-    (checked-first _ _ _ _ _ _ _ _ _ _ (c .csw-at .ensures) (sym (c .before .if1 .taken) ∙ t _ refl refl), tt)
+    (checked-first _ _ _ _ _ _ _ _ _ _ (c .csw-at .ensures .0) (sym (c .before .if1 .taken) ∙ t _ refl refl), c .csw-at .ensures .1)
 
 initial-requires : tie.Need-initial-requires
 initial-requires c κs = sound _ _ (c .before .before .before .before .before .before .before .before .before .pre .0 .whole)

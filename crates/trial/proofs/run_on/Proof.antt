@@ -1,9 +1,9 @@
 -- `trial::run_on` meets its contract. Invariant: the commands left, from the state and storage that the loop has come to, come to what all of
--- them come to; the drive stands in the image. Measure: the commands left. Assumes nothing.
+-- them come to; the drive stands in the image, and a CSW can show the state. Measure: the commands left. Assumes nothing.
 use mathlib.Core.Path.{_≡_, refl}
 use lib.ListN.{length}
 use Rattle.position.specs.Standing.{Standing}
-use Rattle.command.specs.Answer.{Low}
+use Rattle.command.specs.Answer.{StateLow}
 use Rattle.trial.proofs.Runs.{Alike, goes-on, ends-so, cut-so, out}
 use borrow.Author.Needs.{needs}
 use Rattle.trial.proofs.run_on.Statement.{statement}
@@ -13,7 +13,7 @@ abbrev Inv-loop : tie.InvT-loop
 Inv-loop chain arguments program restarts image faults limit storage₀ here₀ left₀ storage here left =
     (length storage ≡ length storage₀)
     × Standing image (here .drive)
-    × Low (here .last)
+    × StateLow here
     × Alike chain arguments program restarts image faults left here storage left₀ here₀ storage₀
 
 abbrev μ-loop : tie.MeasureT-loop
@@ -30,7 +30,7 @@ sub-left c = search needs
 step-requires : tie.Need-step-requires Inv-loop μ-loop
 step-requires c κs =
     let i = c .before .before .loop .inv in
-    (c .before .before .before .before .before .before .before .before .before .before .pre .0, (i .1, i .2))
+    (c .before .before .before .before .before .before .before .before .before .before .pre .0, (i .1, i .2 .last-low))
 
 enum-known-t : tie.Need-enum-known-t Inv-loop μ-loop
 enum-known-t c = search needs
@@ -59,7 +59,7 @@ returns c =
     let at = call .before .before .before .loop in
     let s₀ = call .before .before .before .before .before .before .before .before .before .before .before .args .s in
     let e = rw (c .before .e .given .1) at (call .step .ensures .0) in
-    (ends-so _ _ _ _ _ _ _ s₀ _ _ (at .here) _ (at .inv .3) (c .before .e .given .0 .0) _ (call .before .before .loop-test .taken) e, tt)
+    (ends-so _ _ _ _ _ _ _ s₀ _ _ (at .here) _ (at .inv .3) (c .before .e .given .0 .0) _ (call .before .before .loop-test .taken) e, rw (c .before .e .given .1) at (call .step .ensures .1))
 
 enum-known-k : tie.Need-enum-known-k Inv-loop μ-loop
 enum-known-k c = search needs

@@ -16,7 +16,7 @@ areas-fit-requires c κs = search needs
 returns : tie.Need-returns
 returns c =
     let a = c .before .before .before .before .before .before .before .before .before .before .before .args in
-    (wrong-areas (a .chain .now) (a .arguments .now) (a .storage .now) (a .image .now) (a .faults .now) (a .extent .now) (a .limit) (a .program .now) (a .restarts .now) (a .list .now) (sym (c .before .areas-fit .ensures) ∙ not-true _ (c .if1 .taken)), tt)
+    (wrong-areas (a .chain .now) (a .arguments .now) (a .storage .now) (a .image .now) (a .faults .now) (a .extent .now) (a .limit) (a .program .now) (a .restarts .now) (a .list .now) (sym (c .before .areas-fit .ensures) ∙ not-true _ (c .if1 .taken)), (tt, tt))
 
 well-formed-requires : tie.Need-well-formed-requires
 well-formed-requires c κs = search needs
@@ -24,7 +24,7 @@ well-formed-requires c κs = search needs
 returns-2 : tie.Need-returns-2
 returns-2 c =
     let a = c .before .before .before .before .before .before .before .before .before .before .before .before .before .args in
-    (ill-image (a .chain .now) (a .arguments .now) (a .storage .now) (a .image .now) (a .faults .now) (a .extent .now) (a .limit) (a .program .now) (a .restarts .now) (a .list .now) (sym (c .before .before .before .areas-fit .ensures) ∙ not-false _ (c .before .before .if1 .left)) (sym (c .before .well-formed .ensures) ∙ not-true _ (c .if2 .taken)), tt)
+    (ill-image (a .chain .now) (a .arguments .now) (a .storage .now) (a .image .now) (a .faults .now) (a .extent .now) (a .limit) (a .program .now) (a .restarts .now) (a .list .now) (sym (c .before .before .before .areas-fit .ensures) ∙ not-false _ (c .before .before .if1 .left)) (sym (c .before .well-formed .ensures) ∙ not-true _ (c .if2 .taken)), (tt, tt))
 
 sound-faults-requires : tie.Need-sound-faults-requires
 sound-faults-requires c κs = search needs
@@ -33,7 +33,7 @@ returns-3 : tie.Need-returns-3
 returns-3 c =
     let a = c .before .before .before .before .before .before .before .before .before .before .before .before .before .before .before .args in
     let w = sym (c .before .before .before .well-formed .ensures) ∙ not-false _ (c .before .before .if2 .left) in
-    (ill-faults (a .chain .now) (a .arguments .now) (a .storage .now) (a .image .now) (a .faults .now) (a .extent .now) (a .limit) (a .program .now) (a .restarts .now) (a .list .now) (sym (c .before .before .before .before .before .areas-fit .ensures) ∙ not-false _ (c .before .before .before .before .if1 .left)) w (sound-is _ _ _ w (c .before .sound-faults .ensures) (not-true _ (c .if3 .taken))), tt)
+    (ill-faults (a .chain .now) (a .arguments .now) (a .storage .now) (a .image .now) (a .faults .now) (a .extent .now) (a .limit) (a .program .now) (a .restarts .now) (a .list .now) (sym (c .before .before .before .before .before .areas-fit .ensures) ∙ not-false _ (c .before .before .before .before .if1 .left)) w (sound-is _ _ _ w (c .before .sound-faults .ensures) (not-true _ (c .if3 .taken))), (tt, tt))
 
 extent-of-requires : tie.Need-extent-of-requires
 extent-of-requires c κs = areas-say _ _ _ _ _ _ _ _ _ _ (sym (c .before .before .before .before .before .areas-fit .ensures) ∙ not-false _ (c .before .before .before .before .if1 .left)) .extent-full
@@ -46,7 +46,7 @@ returns-4 c =
     let a = c .before .before .before .before .before .before .before .before .before .before .before .before .before .before .before .before .before .before .args in
     let w = sym (c .before .before .before .before .before .before .well-formed .ensures) ∙ not-false _ (c .before .before .before .before .before .if2 .left) in
     let l = listed _ _ (sound-is _ _ _ w (c .before .before .before .before .sound-faults .ensures) (not-false _ (c .before .before .before .if3 .left))) in
-    (off-pack (a .chain .now) (a .arguments .now) (a .storage .now) (a .image .now) (a .faults .now) (a .extent .now) (a .limit) (a .program .now) (a .restarts .now) (a .list .now) (sym (c .before .before .before .before .before .before .before .before .areas-fit .ensures) ∙ not-false _ (c .before .before .before .before .before .before .before .if1 .left)) w (l .0) (l .1) (l .2) _ (c .before .before .extent-of .ensures) (sym (c .before .on-pack .ensures) ∙ not-true _ (c .if4 .taken)), tt)
+    (off-pack (a .chain .now) (a .arguments .now) (a .storage .now) (a .image .now) (a .faults .now) (a .extent .now) (a .limit) (a .program .now) (a .restarts .now) (a .list .now) (sym (c .before .before .before .before .before .before .before .before .areas-fit .ensures) ∙ not-false _ (c .before .before .before .before .before .before .before .if1 .left)) w (l .0) (l .1) (l .2) _ (c .before .before .extent-of .ensures) (sym (c .before .on-pack .ensures) ∙ not-true _ (c .if4 .taken)), (tt, tt))
 
 slice-aggregate-run-from : tie.Need-slice-aggregate-run-from
 slice-aggregate-run-from c = search needs

@@ -47,15 +47,16 @@ same-length-4 c = search needs
 
 returns : tie.Need-returns Inv-loop μ-loop
 returns c =
-    let a = c .before .before .before .before .before .before .before .before .before .before .before .before .before .args in
+    let start = c .before .before .before .before .before .before .before .before .before .before .before .before .before in
+    let a = start .args in
     let at = c .before .before .before .before .loop in
-    (on-ended (a .chain .now) (a .arguments .now) (a .image .now) (a .faults .now) (a .x) (a .limit) (a .first) (lentAreas (a .storage .now) (a .program .now) (a .restarts .now) (a .list .now)) _ _ (c .before .before .ran .given .0 .0) (rw (c .before .before .ran .given .1) at (at .inv .6)), at .inv .0)
+    (on-ended (a .chain .now) (a .arguments .now) (a .image .now) (a .faults .now) (a .x) (a .limit) (a .first) (lentAreas (a .storage .now) (a .program .now) (a .restarts .now) (a .list .now)) _ _ (c .before .before .ran .given .0 .0) (rw (c .before .before .ran .given .1) at (at .inv .6)), (at .inv .0, record { csw-low = rw (c .before .before .ran .given .1) at (at .inv .5); made-low = omega (arith, at .inv .0, start .pre .1 .1 .1 .0) }))
 
 enum-known-ran-2 : tie.Need-enum-known-ran-2 Inv-loop μ-loop
 enum-known-ran-2 c = search needs
 
 csw-at-requires : tie.Need-csw-at-requires Inv-loop μ-loop
-csw-at-requires c κs = rw (c .before .ran2 .given .1) at (c .before .before .before .loop .inv .5)
+csw-at-requires c κs = let low = rw (c .before .ran2 .given .1) at (c .before .before .before .loop .inv .5) in (low .last-low, low .left-low)
 
 same-length-5 : tie.Need-same-length-5 Inv-loop μ-loop
 same-length-5 c = search needs
@@ -71,9 +72,10 @@ same-length-8 c = search needs
 
 returns-2 : tie.Need-returns-2 Inv-loop μ-loop
 returns-2 c =
-    let a = c .before .before .before .before .before .before .before .before .before .before .before .before .before .args in
+    let start = c .before .before .before .before .before .before .before .before .before .before .before .before .before in
+    let a = start .args in
     let at = c .before .before .before .before .loop in
-    (on-limited (a .chain .now) (a .arguments .now) (a .image .now) (a .faults .now) (a .x) (a .limit) (a .first) (lentAreas (a .storage .now) (a .program .now) (a .restarts .now) (a .list .now)) _ _ (c .before .before .ran2 .given .0 .0) (c .csw-at .result) (rw (c .before .before .ran2 .given .1) at (at .inv .6)) (c .csw-at .ensures), at .inv .0)
+    (on-limited (a .chain .now) (a .arguments .now) (a .image .now) (a .faults .now) (a .x) (a .limit) (a .first) (lentAreas (a .storage .now) (a .program .now) (a .restarts .now) (a .list .now)) _ _ (c .before .before .ran2 .given .0 .0) (c .csw-at .result) (rw (c .before .before .ran2 .given .1) at (at .inv .6)) (c .csw-at .ensures .0), (at .inv .0, record { csw-low = c .csw-at .ensures .1; made-low = omega (arith, at .inv .0, start .pre .1 .1 .1 .0) }))
 
 enum-known-ran-3 : tie.Need-enum-known-ran-3 Inv-loop μ-loop
 enum-known-ran-3 c = search needs
@@ -92,9 +94,11 @@ same-length-12 c = search needs
 
 returns-3 : tie.Need-returns-3 Inv-loop μ-loop
 returns-3 c =
-    let a = c .before .before .before .before .before .before .before .before .before .before .before .before .before .before .args in
+    let start = c .before .before .before .before .before .before .before .before .before .before .before .before .before .before in
+    let a = start .args in
     let at = c .before .before .before .before .before .loop in
-    (on-exhausted (a .chain .now) (a .arguments .now) (a .image .now) (a .faults .now) (a .x) (a .limit) (a .first) (lentAreas (a .storage .now) (a .program .now) (a .restarts .now) (a .list .now)) _ _ (c .before .before .before .ran3 .given .0 .0) (rw (c .before .before .before .ran3 .given .1) at (at .inv .6)) (c .if1 .taken), at .inv .0)
+    let low = rw (c .before .before .before .ran3 .given .1) at (at .inv .5) in
+    (on-exhausted (a .chain .now) (a .arguments .now) (a .image .now) (a .faults .now) (a .x) (a .limit) (a .first) (lentAreas (a .storage .now) (a .program .now) (a .restarts .now) (a .list .now)) _ _ (c .before .before .before .ran3 .given .0 .0) (rw (c .before .before .before .ran3 .given .1) at (at .inv .6)) (c .if1 .taken), (at .inv .0, record { csw-low = low .csw-low; made-low = omega (arith, at .inv .0, start .pre .1 .1 .1 .0) }))
 
 after-cut-requires : tie.Need-after-cut-requires Inv-loop μ-loop
 after-cut-requires c κs =
@@ -152,10 +156,11 @@ same-length-16 c = search needs
 
 returns-4 : tie.Need-returns-4 Inv-loop μ-loop
 returns-4 c =
-    let a = c .before .before .before .before .before .before .before .before .before .before .before .before .before .before .before .before .before .before .before .before .before .before .before .before .before .before .before .before .before .before .args in
+    let start = c .before .before .before .before .before .before .before .before .before .before .before .before .before .before .before .before .before .before .before .before .before .before .before .before .before .before .before .before .before .before in
+    let a = start .args in
     let at = c .before .before .before .before .before .before .before .before .before .before .before .before .before .before .before .before .before .before .before .before .before .loop in
     let cut = rw (c .before .before .before .before .before .before .before .before .before .before .before .before .before .before .before .before .before .before .before .ran3 .given .1) at (at .inv .6) in
-    (on-closed (a .chain .now) (a .arguments .now) (a .image .now) (a .faults .now) (a .x) (a .limit) (a .first) (lentAreas (a .storage .now) (a .program .now) (a .restarts .now) (a .list .now)) _ _ (c .before .before .before .before .before .before .before .before .before .before .before .before .before .before .before .before .before .before .before .ran3 .given .0 .0) cut (at .inv .0) (c .before .before .before .before .before .before .before .before .before .before .before .before .before .before .before .before .if1 .left) _ _ (rw (c .before .w2 .given .1) at (c .before .before .before .before .before .before .before .before .before .before .before .after-cut .ensures .0)), omega (arith, at .inv .0, c .before .before .before .before .before .before .before .before .before .before .before .before .before .before .before .before .if1 .left))
+    (on-closed (a .chain .now) (a .arguments .now) (a .image .now) (a .faults .now) (a .x) (a .limit) (a .first) (lentAreas (a .storage .now) (a .program .now) (a .restarts .now) (a .list .now)) _ _ (c .before .before .before .before .before .before .before .before .before .before .before .before .before .before .before .before .before .before .before .ran3 .given .0 .0) cut (at .inv .0) (c .before .before .before .before .before .before .before .before .before .before .before .before .before .before .before .before .if1 .left) _ _ (rw (c .before .w2 .given .1) at (c .before .before .before .before .before .before .before .before .before .before .before .after-cut .ensures .0)), (omega (arith, at .inv .0, c .before .before .before .before .before .before .before .before .before .before .before .before .before .before .before .before .if1 .left), record { csw-low = rw (c .before .w2 .given .1) at (c .before .before .before .before .before .before .before .before .before .before .before .after-cut .ensures .1); made-low = omega (arith, at .inv .0, start .pre .1 .1 .1 .0) }))
 
 enum-known-n : tie.Need-enum-known-n Inv-loop μ-loop
 enum-known-n c = search needs
@@ -174,10 +179,12 @@ same-length-20 c = search needs
 
 returns-5 : tie.Need-returns-5 Inv-loop μ-loop
 returns-5 c =
-    let a = c .before .before .before .before .before .before .before .before .before .before .before .before .before .before .before .before .before .before .before .before .before .before .before .before .before .before .before .before .before .before .args in
+    let start = c .before .before .before .before .before .before .before .before .before .before .before .before .before .before .before .before .before .before .before .before .before .before .before .before .before .before .before .before .before .before in
+    let a = start .args in
     let at = c .before .before .before .before .before .before .before .before .before .before .before .before .before .before .before .before .before .before .before .before .before .loop in
     let cut = rw (c .before .before .before .before .before .before .before .before .before .before .before .before .before .before .before .before .before .before .before .ran3 .given .1) at (at .inv .6) in
-    (on-halted (a .chain .now) (a .arguments .now) (a .image .now) (a .faults .now) (a .x) (a .limit) (a .first) (lentAreas (a .storage .now) (a .program .now) (a .restarts .now) (a .list .now)) _ _ (c .before .before .before .before .before .before .before .before .before .before .before .before .before .before .before .before .before .before .before .ran3 .given .0 .0) cut (at .inv .0) (c .before .before .before .before .before .before .before .before .before .before .before .before .before .before .before .before .if1 .left) _ _ (rw (c .before .n .given .1) at (c .before .before .before .before .before .before .before .before .before .before .before .after-cut .ensures .0)), at .inv .0)
+    let low = rw (c .before .before .before .before .before .before .before .before .before .before .before .before .before .before .before .before .before .before .before .ran3 .given .1) at (at .inv .5) in
+    (on-halted (a .chain .now) (a .arguments .now) (a .image .now) (a .faults .now) (a .x) (a .limit) (a .first) (lentAreas (a .storage .now) (a .program .now) (a .restarts .now) (a .list .now)) _ _ (c .before .before .before .before .before .before .before .before .before .before .before .before .before .before .before .before .before .before .before .ran3 .given .0 .0) cut (at .inv .0) (c .before .before .before .before .before .before .before .before .before .before .before .before .before .before .before .before .if1 .left) _ _ (rw (c .before .n .given .1) at (c .before .before .before .before .before .before .before .before .before .before .before .after-cut .ensures .0)), (at .inv .0, record { csw-low = low .csw-low; made-low = omega (arith, at .inv .0, start .pre .1 .1 .1 .0) }))
 
 pub read-on-spec : {M : Type 1} → statement M
 read-on-spec =
