@@ -119,15 +119,15 @@ fn sensible(sense: &[u8]) -> bool
     requires { ⌜ length (now sense) ≡ 24 ⌝ }
     ensures { λ r. ⌜ r ≡ sensibleIn (now (sense .entry)) ⌝ }
 {
-    let error = base::be16(sense, 18);
-    let restart = base::be24(sense, 15);
-    if error == 0 {
+    let error = FromEnd(base::be16(sense, 18));
+    let restart = FromFront(base::be24(sense, 15));
+    if error.0 == 0 {
         return false;
     }
-    if 13038 < restart {
+    if 13038 < restart.0 {
         return false;
     }
-    if restart < error {
+    if restart.0 < error.0 {
         return false;
     }
     base::byte(sense, 13) < 128

@@ -108,6 +108,8 @@ pub fn put_cut_sense(to: &mut [u8], k: Cut)
     ensures { λ _. ⌜ now (to .exit) ≡ Step.cutSense (cutOf k []) ++ drop 24 (now (to .entry)) ⌝ }
 {
     let at = k.at;
+    let restart = k.restart;
+    let error = k.error;
     copy::put(
         to,
         &[
@@ -126,11 +128,11 @@ pub fn put_cut_sense(to: &mut [u8], k: Cut)
             k.r as u8,
             0,
             0,
-            (k.restart / 65536) as u8,
-            (k.restart / 256 % 256) as u8,
-            (k.restart % 256) as u8,
-            (k.error / 256) as u8,
-            (k.error % 256) as u8,
+            (restart.0 / 65536) as u8,
+            (restart.0 / 256 % 256) as u8,
+            (restart.0 % 256) as u8,
+            (error.0 / 256) as u8,
+            (error.0 % 256) as u8,
             k.pattern0,
             k.pattern1,
             k.pattern2,

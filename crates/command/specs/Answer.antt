@@ -49,8 +49,8 @@ abbrev pub cutOf : Cut → List ℕ → Step.Cut
 cutOf k st = record {
   at = k .at;
   r = k .r;
-  restart = k .restart;
-  error = k .error;
+  restart = k .restart .0;
+  error = k .error .0;
   pattern = k .pattern0 ∷ k .pattern1 ∷ k .pattern2 ∷ [];
   over = k .over;
   first = k .first;
@@ -90,8 +90,8 @@ pub record CutLow (k : Cut) : Type 0 where
   pub cylinder : k .at .cylinder < 0x10000
   pub head : k .at .head < 0x10000
   pub number : k .r < 0x100
-  pub restart-low : k .restart < 0x10000
-  pub error-low : k .error < 0x10000
+  pub restart-low : k .restart .0 < 0x10000
+  pub error-low : k .error .0 < 0x10000
   pub first-low : Low (k .first)
   pub csw-low : CswLow (k .csw)
 

@@ -1,5 +1,7 @@
 // What one command comes to, and the commands that move no byte: control and search.
 use address::Address;
+use base::FromEnd;
+use base::FromFront;
 use channel::Ccw;
 use channel::Csw;
 use channel::Location;
@@ -53,8 +55,8 @@ pub struct Cut {
     pub csw: Csw,
     pub at: Address,
     pub r: usize,
-    pub restart: usize,
-    pub error: usize,
+    pub restart: FromFront,
+    pub error: FromEnd,
     pub first: Location,
     pub pattern0: u8,
     pub pattern1: u8,

@@ -39,10 +39,10 @@ shown-low m after bs st (stopped ps l) h k e = subst LowMoved (sym (ap (λ (x : 
 module _ (chain program : List ℕ) (l : Location) (c : Ccw) (bs st after : List ℕ) (m : Moved) (t : Transfers chain program l c bs st (left m after)) where
   pub moved-low : CountLow m → Ready chain program st l c → LowMoved m
   unfolding transferred
-  moved-low few h =
+  moved-low k h =
       let p = lentOf chain [] program [] in
       let low = inside-low chain program (h .short) in
-      shown-low m after bs st _ (walk-shown Low p (λ k e f. low k (fetched-inside p k e f)) (length st) (length bs) l c (c .count) (c .address) (low l (h .inside))) few (t p refl refl)
+      shown-low m after bs st _ (walk-shown Low p (λ k e f. low k (fetched-inside p k e f)) (length st) (length bs) l c (c .count) (c .address) (low l (h .inside))) k (t p refl refl)
 
   pub ended-so : (n : ℕ) (f : Walk → Step.Answer) (r : Answer) → length bs ≡ n → ((ps : List (Option ℕ)) → f (walkOf ps m) ≡ answerOf r (store ps bs st))
       → Ends chain program l c n st f r after

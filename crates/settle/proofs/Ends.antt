@@ -51,8 +51,8 @@ abbrev pub told : Location → Place → Listed → ℕ → Drive → Bool → C
 told first p f n d over w = record {
   at = p .at;
   r = p .r;
-  restart = n;
-  error = f .displacement .0;
+  restart = record { 0 = n };
+  error = f .displacement;
   pattern0 = f .first;
   pattern1 = f .second;
   pattern2 = f .third;

@@ -1,4 +1,5 @@
 // What a read comes to where its data chain ended.
+use base::FromFront;
 use channel::Csw;
 use channel::Location;
 use command::Answer;
@@ -101,11 +102,12 @@ pub fn faulted(m: Moved, first: Location, p: Place, f: Listed, length: usize, d:
             let channel = length_status(ccw.incorrect_length(left, over));
             let mask = d.mask;
             let track = p.at;
+            let error = f.displacement;
             return Answer::Cuts(Cut {
                 at: track,
                 r: p.r,
-                restart: length,
-                error: f.displacement.0,
+                restart: FromFront(length),
+                error: error,
                 pattern0: f.first,
                 pattern1: f.second,
                 pattern2: f.third,

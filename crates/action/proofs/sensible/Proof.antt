@@ -12,19 +12,28 @@ be24-requires : tie.Need-be24-requires
 be24-requires c κs = search needs
 
 returns : tie.Need-returns
-returns c = no-error _ (sym (c .before .before .be16 .ensures .0) ∙ c .if1 .taken)
+returns c = no-error _ (sym (c .before .before .before .be16 .ensures .0) ∙ c .if1 .taken)
 
 returns-2 : tie.Need-returns-2
-returns-2 c = let e = c .before .before .before .be16 .ensures .0 in let r = c .before .before .be24 .ensures .0 in too-long _ (λ z. c .before .if1 .left (e ∙ z)) (rw (← r) (c .if2 .taken))
+returns-2 c =
+    let e = c .before .before .before .before .before .be16 .ensures .0 in
+    let r = c .before .before .before .before .be24 .ensures .0 in
+    too-long _ (λ z. c .before .before .if1 .left (e ∙ z)) (rw (← r) (c .if2 .taken))
 
 returns-3 : tie.Need-returns-3
-returns-3 c = let e = c .before .before .before .before .be16 .ensures .0 in let r = c .before .before .before .be24 .ensures .0 in too-far _ (λ z. c .before .before .if1 .left (e ∙ z)) (rw (← r) (c .before .if2 .left)) (rw (← r, ← e) (c .if3 .taken))
+returns-3 c =
+    let e = c .before .before .before .before .before .before .before .before .be16 .ensures .0 in
+    let r = c .before .before .before .before .before .before .before .be24 .ensures .0 in
+    too-far _ (λ z. c .before .before .before .before .before .if1 .left (e ∙ z)) (rw (← r) (c .before .before .before .if2 .left)) (rw (← r, ← e) (c .if3 .taken))
 
 byte-requires : tie.Need-byte-requires
 byte-requires c κs = search needs
 
 returns-4 : tie.Need-returns-4
-returns-4 c = let e = c .before .before .before .before .before .be16 .ensures .0 in let r = c .before .before .before .before .be24 .ensures .0 in sector-low _ (λ z. c .before .before .before .if1 .left (e ∙ z)) (rw (← r) (c .before .before .if2 .left)) (rw (← r, ← e) (c .before .if3 .left)) _ (c .byte .ensures .0)
+returns-4 c =
+    let e = c .before .before .before .before .before .before .before .before .before .be16 .ensures .0 in
+    let r = c .before .before .before .before .before .before .before .before .be24 .ensures .0 in
+    sector-low _ (λ z. c .before .before .before .before .before .before .if1 .left (e ∙ z)) (rw (← r) (c .before .before .before .before .if2 .left)) (rw (← r, ← e) (c .before .if3 .left)) _ (c .byte .ensures .0)
 
 pub sensible-spec : {M : Type 1} → statement M
 sensible-spec =

@@ -26,16 +26,16 @@ length-status-requires c κs = search needs
 
 csw-at-requires : tie.Need-csw-at-requires
 csw-at-requires c κs =
-    let m = c .before .before .before .before .m2 .given in
-    let pre = c .before .before .before .before .before .before .pre .0 in
+    let m = c .before .before .before .before .before .m2 .given in
+    let pre = c .before .before .before .before .before .before .before .pre .0 in
     (ended-low _ _ _ _ _ (m .1) pre, ended-left _ _ _ _ _ (m .1) pre)
 
 returns-2 : tie.Need-returns-2
 returns-2 c =
-    let status = c .before .before .length-status in
-    let wrong = c .before .before .before .incorrect-length in
-    let m = c .before .before .before .before .before .m2 .given in
-    let start = c .before .before .before .before .before .before .before in
+    let status = c .before .before .before .length-status in
+    let wrong = c .before .before .before .before .incorrect-length in
+    let m = c .before .before .before .before .before .before .m2 .given in
+    let start = c .before .before .before .before .before .before .before .before in
     let given = start .args in (
       faulted-ended (given .d) _ _ _ _ _ (m .1) (wrong .result) (status .result) _ (wrong .ensures) (status .ensures) _ (given .p) _ _ (c .csw-at .ensures .0),
       λ image. cut-low _ (given .p) (given .f) _ (given .d) _ (c .csw-at .result) (start .pre .1) (c .csw-at .ensures .1),
