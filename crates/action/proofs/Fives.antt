@@ -18,7 +18,7 @@ use lib.Dec.{eqb, ltb, leb}
 use lib.ListN.{length, getD}
 use borrow.Author.Tests.{eq-eqb, ne-eqb, leb-true}
 use Rattle.base.specs.Choice.{pick, opt}
-use Rattle.base.proofs.Choice.{pick-true, pick-false, and-left, and-right}
+use Rattle.base.proofs.Choice.{pick-true, pick-false, and-left, and-right, opt-none, opt-is}
 use Rattle.base.specs.Bytes.{be16At, be24At}
 use Rattle.questions.specs.declared.Question.the-variants as Question
 use Rattle.address.specs.declared.Extent.{Extent}
@@ -215,14 +215,6 @@ ccw-there chain first c f = f (only chain) refl refl
 pub ccw-gone : (chain : List ℕ) (first : ℕ) → Fetches chain [] (Chain first) Past → none ≡ fetchIn chain first
 unfolding fetch onlyChain
 ccw-gone chain first f = f (only chain) refl refl
-
-opt-none : {A B : Type 0} (o : Option A) (y : B) (f : A → B) → none ≡ o → opt o y f ≡ y
-unfolding opt
-opt-none o y f e = rw (← e)
-
-opt-is : {A B : Type 0} (o : Option A) (y : B) (f : A → B) (z : A) → some z ≡ o → opt o y f ≡ f z
-unfolding opt
-opt-is o y f z e = rw (← e)
 
 module _ (chain sense : List ℕ) (csw : Csw) (first : ℕ) (mask : FileMask) (x : Extent) (st p a : List ℕ) where
   pub wrong-format : (getD sense 7 0 ≡ 0x53 → ⊥) → Acts Recovery.actionFive chain sense csw first mask x st p a (with (Refused Question.Format) st p a)

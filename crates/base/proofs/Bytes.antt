@@ -3,13 +3,15 @@
 --   part-part                           a part of a part
 --   be16-drop, part-drop                the same of the bytes from a place on
 --   part-three                          a part of three bytes
-use Prim.Native.Nat.{ℕ, zero, suc, _+_, _-_, _<_, _≤_}
+--   to-end                              all bytes from a place on
+--   two-back, three-back                a number out of its two or three bytes
+use Prim.Native.Nat.{ℕ, zero, suc, _+_, _-_, _*_, _/_, _%_, _<_, _≤_}
 use native.Mathlib.Nat.{zero-add, suc-add}
 use native.Mathlib.Omega.{arith}
 use mathlib.Core.Path.{_≡_, refl, ap, sym, _∙_}
 use mathlib.Core.List.{List, [], _∷_}
 use lib.ListN.{length, getD, take, drop, length-take, length-drop}
-use lib.Seq.{getD-take, getD-drop, drop-drop, take-take, take-nil, drop-cons}
+use lib.Seq.{getD-take, getD-drop, drop-drop, take-all, take-take, take-nil, drop-cons}
 use Rattle.base.specs.Bytes.{be16At, part}
 
 drop-take : (a n : ℕ) (l : List ℕ) → drop a (take n l) ≡ take (n - a) (drop a l)
@@ -45,6 +47,15 @@ be16-drop at i s = let e : at + (i + 1) ≡ at + i + 1 = omega arith in rw (getD
 pub part-drop : (at i j : ℕ) (s : List ℕ) → part (drop at s) i j ≡ part s (at + i) (at + j)
 unfolding part
 part-drop at i j s = let n : at + j - (at + i) ≡ j - i = omega arith in rw (drop-drop i at s, n)
+
+pub to-end : (s : List ℕ) (a : ℕ) → take (length s - a) (drop a s) ≡ drop a s
+to-end s a = take-all (length s - a) (drop a s) (rw length-drop (omega arith))
+
+pub two-back : (n : ℕ) → n / 256 * 256 + n % 256 ≡ n
+two-back n = omega arith
+
+pub three-back : (n : ℕ) → n / 65536 * 65536 + (n / 256 % 256 * 256 + n % 256) ≡ n
+three-back n = omega arith
 
 -- one more byte in front, at i + 1
 drop-one : (s : List ℕ) (a : ℕ) → a < length s → drop a s ≡ getD s a 0 ∷ drop (a + 1) s

@@ -7,9 +7,12 @@
 --   opt-const, opt-opt         a choice that comes to the same; a choice of a choice
 --   opt-some                   what was chosen, where something was
 --   split                      a test taken apart, with its outcome in hand
+--   opt-none, opt-is           a choice whose outcome is known
 --   and-left, and-right        what a true conjunction says
+--   and-true, and-second       a conjunction whose second part is known
+--   not-not, never, some-is    a test turned round twice; no test is both; what is the same in `some`
 use mathlib.Core.Path.{_≡_, refl}
-use mathlib.Core.Bool.{Bool, true, false, _&&_}
+use mathlib.Core.Bool.{Bool, true, false, _&&_, not}
 use mathlib.Core.Option.{Option, none, some}
 use Prim.Native.Nat.{ℕ}
 use native.Mathlib.Omega.{arith}
@@ -69,6 +72,32 @@ and-left false b h = h
 pub and-right : (a b : Bool) → (a && b) ≡ true → b ≡ true
 and-right true b h = h
 and-right false b h = let z : _≡_ {A = ℕ} 0 1 = cc in absurd (omega arith)
+
+pub and-true : (a : Bool) → (a && true) ≡ a
+and-true true = refl
+and-true false = refl
+
+pub and-second : (a : Bool) {b : Bool} → b ≡ false → (a && b) ≡ false
+and-second true h = h
+and-second false h = refl
+
+pub not-not : (b : Bool) → b ≡ not (not b)
+not-not true = refl
+not-not false = refl
+
+pub never : {P : Type 0} → false ≡ true → P
+never e = let z : _≡_ {A = ℕ} 0 1 = cc in absurd (omega arith)
+
+pub some-is : {A : Type 0} {a b : A} → some a ≡ some b → a ≡ b
+some-is e = cc
+
+pub opt-none : {A B : Type 0} (o : Option A) (y : B) (f : A → B) → none ≡ o → opt o y f ≡ y
+unfolding opt
+opt-none o y f e = rw (← e)
+
+pub opt-is : {A B : Type 0} (o : Option A) (y : B) (f : A → B) (z : A) → some z ≡ o → opt o y f ≡ f z
+unfolding opt
+opt-is o y f z e = rw (← e)
 
 pub opt-opt : {A B C : Type 0} (o : Option A) (f : A → Option B) (y : C) (g : B → C) → opt (opt o none f) y g ≡ opt o y (λ a. opt (f a) y g)
 unfolding opt

@@ -13,7 +13,7 @@ use lib.Dec.{eqb, ltb, leb}
 use lib.ListN.{length}
 use borrow.Author.Tests.{ltb-true, ltb-false, leb-true, le-leb, lt-leb, eq-eqb, ne-eqb}
 use Rattle.base.specs.Choice.{pick}
-use Rattle.base.proofs.Choice.{and-left}
+use Rattle.base.proofs.Choice.{and-left, not-not}
 use Rattle.channel.specs.declared.Ccw.{Ccw}
 use Rattle.channel.specs.declared.Location.{Location}
 use Rattle.channel.specs.declared.Location.the-variants.{Chain, Restart}
@@ -32,11 +32,7 @@ module _ (c : Ccw) where
 
   pub suppressed : suppresses c ≡ true → chainsData c ≡ showsLength c
   unfolding showsLength
-  suppressed e = rw e (twice (chainsData c))
-    where
-      twice : (b : Bool) → b ≡ not (not b)
-      twice true = refl
-      twice false = refl
+  suppressed e = rw e (not-not (chainsData c))
 
   pub over-length : (left : ℕ) (over : Bool) → over ≡ true → showsLength c ≡ incorrectLength c left over
   unfolding incorrectLength showsLength

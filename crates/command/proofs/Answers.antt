@@ -20,7 +20,7 @@ use lib.Dec.{eqb, ltb}
 use lib.ListN.{length, getD}
 use borrow.Author.Tests.{eqb-true, eq-eqb, ne-eqb}
 use Rattle.base.specs.Bytes.{be16At}
-use Rattle.base.proofs.Choice.{pick-true, pick-false, and-left}
+use Rattle.base.proofs.Choice.{pick-true, pick-false, and-left, and-second, never}
 use Rattle.base.proofs.Bytes.{length-part}
 use Rattle.address.specs.declared.Address.{Address}
 use Rattle.address.specs.Order.{lastCylinder, onPack}
@@ -57,10 +57,6 @@ next-low l m e h = let q : addressOf m ≡ addressOf l + 8 = ap addressOf e ∙ 
 and-first : {a : Bool} (b : Bool) → a ≡ false → (a && b) ≡ false
 and-first b h = rw h
 
-and-second : (a : Bool) {b : Bool} → b ≡ false → (a && b) ≡ false
-and-second true h = h
-and-second false h = refl
-
 and-both : {a b : Bool} → a ≡ true → b ≡ true → (a && b) ≡ true
 and-both h g = rw (h, g)
 
@@ -76,9 +72,6 @@ module _ (c : Ccw) (n : ℕ) where
 
   pub count-above : (k : ℕ) → (eqb (c .count) n && not (chainsData c)) ≡ true → k < n → k < c .count
   count-above k h g = let e = count-is h in omega arith
-
-never : {P : Type 0} → false ≡ true → P
-never e = let z : _≡_ {A = ℕ} 0 1 = cc in absurd (omega arith)
 
 pub no-home : {P : Type 0} → moveless ReadHome ≡ true → P
 unfolding moveless

@@ -72,7 +72,7 @@ named fs (moves t) h = by (t .area) refl
     by (dataOf x) q = by-name x q (naming fs (x .at) (x .r)) refl
 
 pub named-area : (fs : List Fault) (a : Plan) (n : Named fs a)
-    → Step.areaIn fs a ≡ some (record { at = n .taken .at; r = n .taken .r; faulted = true; stored = Step.stored (Step.placesOf (n .transfer .walk)) })
+    → Step.areaIn fs a ≡ some (record { at = n .taken .at; r = n .taken .r; faulted = true })
 unfolding Step.areaIn Step.areaTaken Step.isNamed
 named-area fs a n = rw (n .is-moves, n .is-data, n .is-named)
 

@@ -335,35 +335,24 @@ step fs w s = carry fs (s .storage) (plan w s)
 
 -- ---- what a command reads
 
--- how many bytes a walk puts into storage
-unfoldable pub stored : List (Option ℕ) → ℕ
-stored [] = 0
-stored (none ∷ ps) = stored ps
-stored (some a ∷ ps) = suc (stored ps)
-
-unfoldable pub placesOf : Walk → List (Option ℕ)
-placesOf (walked ps l c left over) = ps
-placesOf (stopped ps l) = ps
-
--- A data area that a 06, 0E or 1E takes: its record, whether the fault list names it, and how many bytes the read stores.
+-- A data area that a 06, 0E or 1E takes: its record, and whether the fault list names it.
 pub record Area : Type 0 where
   pub at : Address
   pub r : ℕ
   pub faulted : Bool
-  pub stored : ℕ
 
 unfoldable pub isNamed : Option Fault → Bool
 isNamed none = false
 isNamed (some f) = true
 
-unfoldable pub areaTaken : List Fault → Walk → DataArea → Option Area
-areaTaken fs w nothing = none
-areaTaken fs w empty = none
-areaTaken fs w (dataOf x) = some (record { at = x .at; r = x .r; faulted = isNamed (naming fs (x .at) (x .r)); stored = stored (placesOf w) })
+unfoldable pub areaTaken : List Fault → DataArea → Option Area
+areaTaken fs nothing = none
+areaTaken fs empty = none
+areaTaken fs (dataOf x) = some (record { at = x .at; r = x .r; faulted = isNamed (naming fs (x .at) (x .r)) })
 
 unfoldable pub areaIn : List Fault → Plan → Option Area
 areaIn fs (answer a) = none
-areaIn fs (moves t) = areaTaken fs (t .walk) (t .area)
+areaIn fs (moves t) = areaTaken fs (t .area)
 
 -- ---- the sense of a cut
 

@@ -15,7 +15,7 @@ use mathlib.Core.Logic.{inl, inr}
 use lib.ListN.{length}
 use types.Run.{OneOf}
 use denote.Enum.Declared
-use Rattle.base.proofs.Choice.{pick-true, pick-false}
+use Rattle.base.proofs.Choice.{pick-true, pick-false, never}
 use Rattle.pack.specs.Pack.{packOf}
 use Rattle.faults.specs.Faults.{Fault, faultsAt}
 use Rattle.channel.specs.declared.Ccw.{Ccw}
@@ -42,9 +42,6 @@ use Rattle.command.proofs.Answers.{argument-in}
 use Rattle.command.specs.Answer as Answer
 use Rattle.execute.specs.Executes.{lentOf, Short, Begun, Steps, Executes, InArea, Unchecked, Performs, Ready, Carries, recordPlan, Homes}
 use Rattle.execute.proofs.Moves.{inside-low}
-
-never : {P : Type 0} → false ≡ true → P
-never e = let z : _≡_ {A = ℕ} 0 1 = cc in absurd (omega arith)
 
 -- a read's tag is none of the others'
 no-read : (x : ℕ) → OneOf (0 ∷ 1 ∷ 2 ∷ 3 ∷ 4 ∷ 7 ∷ []) x → (x ≡ 5 → ⊥) × (x ≡ 6 → ⊥)

@@ -1,7 +1,7 @@
 -- Reads through their data chain, from how it ended.
 --   moved-low      a CSW can show the CCW that a read ended with, and its count left
 --   ended-so       what a read comes to, from what its end was settled to
---   front .. put-back    bytes at the front of others
+--   joined .. put-back   bytes at the front of others
 use Prim.Native.Nat.{ℕ, _+_, _-_, _<_, _≤_}
 use native.Mathlib.Omega.{arith}
 use mathlib.Core.Path.{_≡_, refl, ap, sym, subst, _∙_}
@@ -50,9 +50,6 @@ module _ (chain program : List ℕ) (l : Location) (c : Ccw) (bs st after : List
   ended-so n f r e h = λ p a b. rw (← e) (through f m r after bs st h _ (t p a b))
 
 -- ---- bytes at the front
-
-pub front : (bs z held : List ℕ) → held ≡ bs ++ drop (length bs) z → take (length bs) held ≡ bs
-front bs z held e = rw e (take-append-seam bs (drop (length bs) z))
 
 pub joined : (n : ℕ) (cs z : List ℕ) → length cs ≡ n → take n (cs ++ drop n z) ≡ cs
 joined n cs z e = rw (← e) (take-append-seam cs (drop (length cs) z))

@@ -10,7 +10,7 @@ use lib.ListN.{length}
 use borrow.Author.Tests.{eq-eqb, ne-eqb, le-leb}
 use Rattle.base.specs.Choice.{pick, opt}
 use Rattle.base.specs.Bytes.{part}
-use Rattle.base.proofs.Choice.{split, found, found-if, opt-opt, opt-const}
+use Rattle.base.proofs.Choice.{split, found, found-if, opt-opt, opt-const, and-true}
 use Rattle.base.proofs.Bytes.{length-part}
 use Rattle.address.specs.declared.Address.{Address}
 use Rattle.address.specs.Order.{same, onPack}
@@ -26,10 +26,6 @@ use Rattle.image.specs.declared.Previous.{Previous}
 use Rattle.image.specs.declared.Previous.the-variants.{Nothing, Behind}
 use Rattle.image.specs.Image.{soundRecord, member, zeroFirst, soundRecords, soundTrack, follows, soundTracks, noRecords, wellFormedFrom, wellFormed}
 use Rattle.image.specs.Pass.{fitsIn, soundInside}
-
-and-true : (b : Bool) → (b && true) ≡ b
-and-true true = refl
-and-true false = refl
 
 sound-record : (s : List ℕ) (at : ℕ) (a : Address) (p : Place) → Lies s at p → p .r < 256 → soundRecord a (recordFrom s p) ≡ fitsIn a p
 unfolding soundRecord fitsIn recordFrom

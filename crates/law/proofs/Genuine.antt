@@ -13,6 +13,7 @@ use borrow.Author.Tests.{eq-eqb, ne-eqb, le-leb}
 use Rattle.base.specs.Choice.{pick, opt}
 use Rattle.base.specs.Bytes.{be16At, be24At, part, two, three}
 use Rattle.base.specs.Bits.{bitOn}
+use Rattle.base.proofs.Bytes.{two-back, three-back}
 use Rattle.questions.specs.declared.Question.the-variants as Question
 use Rattle.address.specs.declared.Address.{Address}
 use Rattle.pack.specs.Pack.{Record}
@@ -43,12 +44,6 @@ use Rattle.restart.specs.Restart.{searchProgram, searchArguments}
 use Rattle.recovery.proofs.Restored.{restored, length-spread}
 use Rattle.law.specs.WholeReading.{reportOf}
 
-back-two : (n : ℕ) → n / 256 * 256 + n % 256 ≡ n
-back-two n = omega arith
-
-back-three : (n : ℕ) → n / 65536 * 65536 + (n / 256 % 256 * 256 + n % 256) ≡ n
-back-three n = omega arith
-
 -- ---- the sense of a cut, read back
 
 module _ (g : Given) (k : Cut) where
@@ -64,15 +59,15 @@ module _ (g : Given) (k : Cut) where
 
   restart-is : restartDisplacement g r st ≡ k .restart
   unfolding restartDisplacement reportOf cutSense addressBytes two three
-  restart-is = back-three (k .restart)
+  restart-is = three-back (k .restart)
 
   error-is : errorDisplacement g r st ≡ k .error
   unfolding errorDisplacement reportOf cutSense addressBytes two three
-  error-is = back-two (k .error)
+  error-is = two-back (k .error)
 
   track-is : cutTrack g r st ≡ k .at
   unfolding cutTrack reportOf cutSense addressBytes two
-  track-is = λ i. record { cylinder = back-two (k .at .cylinder) i; head = back-two (k .at .head) i }
+  track-is = λ i. record { cylinder = two-back (k .at .cylinder) i; head = two-back (k .at .head) i }
 
   format-is : getD (r .sense) 7 0 ≡ 0x53
   unfolding reportOf cutSense

@@ -13,7 +13,7 @@ use lib.Dec.{eqb}
 use lib.ListN.{length, getD}
 use borrow.Author.Tests.{eqb-true}
 use Rattle.base.specs.Choice.{pick, opt}
-use Rattle.base.proofs.Choice.{split, and-left, and-right}
+use Rattle.base.proofs.Choice.{split, and-left, and-right, some-is}
 use Rattle.address.specs.declared.Address.{Address}
 use Rattle.address.specs.declared.Extent.{Extent}
 use Rattle.address.specs.Order.{lastCylinder, same, onPack}
@@ -34,9 +34,6 @@ use Rattle.drive.proofs.Origin as Origin
 use Rattle.law.specs.Demand.{Lending, settingOf, Begins, allInside, Named, faultedOnes}
 
 -- ---- flags
-
-some-is : {A : Type 0} {a b : A} → some a ≡ some b → a ≡ b
-some-is e = cc
 
 abbrev nameOf : Area → Named
 nameOf a = record { at = a .at; r = a .r }

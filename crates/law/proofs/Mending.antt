@@ -17,7 +17,7 @@ use borrow.Author.Tests.{leb-true}
 use Rattle.base.specs.Choice.{pick, opt}
 use Rattle.base.specs.Bits.{bitOn}
 use Rattle.base.specs.Bytes.{two}
-use Rattle.base.proofs.Choice.{split, and-left, and-right}
+use Rattle.base.proofs.Choice.{split, and-left, and-right, not-not}
 use Rattle.questions.specs.Areas.{chainFits, argumentsFit, storageFits, imageFits, faultsFit, limitFits, runAreas}
 use Rattle.address.specs.declared.Address.{Address}
 use Rattle.address.specs.Within.{extentOf}
@@ -118,10 +118,6 @@ drive-is d e i a h q = rw (h, ← q) refl
 
 legal-set : (m : FileMask) → Origin.legal m → (b : ℕ) → m ≡ Set b → settable b ≡ true
 legal-set m h b e = rw e at h
-
-not-not : (b : Bool) → b ≡ not (not b)
-not-not true = refl
-not-not false = refl
 
 -- ---- readings
 

@@ -10,6 +10,7 @@ use lib.Dec.{eqb}
 use lib.ListN.{length}
 use Rattle.base.specs.Choice.{pick, opt}
 use Rattle.base.specs.Bytes.{be16At, be24At, two, three, part}
+use Rattle.base.proofs.Bytes.{two-back, three-back}
 use Rattle.fields.specs.Fields as Fields
 use Rattle.channel.specs.declared.Csw.{Csw}
 use Rattle.channel.specs.Ccw.{addressOf}
@@ -43,22 +44,16 @@ module _ (a0 a1 a2 a3 a4 a5 a6 a7 a8 a9 a10 a11 a12 a13 a14 a15 a16 a17 a18 a19 
 
 -- ---- numbers read back
 
-back-two : (n : ℕ) → n / 256 * 256 + n % 256 ≡ n
-back-two n = omega arith
-
-back-three : (n : ℕ) → n / 65536 * 65536 + (n / 256 % 256 * 256 + n % 256) ≡ n
-back-three n = omega arith
-
 csw-back : (w : Csw) → cswFrom (cswBytes w) ≡ w
 unfolding cswFrom cswBytes two three
-csw-back w = λ i. record { address = back-three (w .address) i; unit = w .unit; channel = w .channel; count = back-two (w .count) i }
+csw-back w = λ i. record { address = three-back (w .address) i; unit = w .unit; channel = w .channel; count = two-back (w .count) i }
 
 -- the report with what is read back
 read-back : (sense : List ℕ) (w : Csw) (n : ℕ) (m : FileMask)
     → _≡_ {A = Option Report} (some (record { sense = sense; csw = cswFrom (cswBytes w); first = be16At (two n) 0; mask = m; seek = none; tries = 0 }))
     (some (record { sense = sense; csw = w; first = n; mask = m; seek = none; tries = 0 }))
 unfolding two
-read-back sense w n m = λ i. some (record { sense = sense; csw = csw-back w i; first = back-two n i; mask = m; seek = none; tries = 0 })
+read-back sense w n m = λ i. some (record { sense = sense; csw = csw-back w i; first = two-back n i; mask = m; seek = none; tries = 0 })
 
 module _ (k : Cut) (x y z : ℕ) (e : k .pattern ≡ x ∷ y ∷ z ∷ []) where
   by-mask : (m : FileMask) → ((b : ℕ) → m ≡ Set b → settable b ≡ true)

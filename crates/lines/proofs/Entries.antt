@@ -6,6 +6,7 @@ use mathlib.Core.Path.{_≡_, refl, ap₂, _∙_}
 use mathlib.Core.List.{List, [], _∷_, _++_}
 use lib.ListN.{length, drop}
 use Rattle.base.specs.Bytes.{two}
+use Rattle.base.proofs.Bytes.{two-back}
 use Rattle.drive.specs.Drive.{addressBytes}
 use Rattle.law.specs.WholeReading.{Entry}
 use Rattle.cut.specs.Entry.{entryBytes}
@@ -13,12 +14,9 @@ use Rattle.whole.specs.Reading.{entriesBytes, listAfter}
 use Rattle.lines.specs.Lines.{recoveryLine, recoveryLines}
 use Rattle.lines.specs.Entries.{entryLine, entryLines}
 
-back : (n : ℕ) → n / 256 * 256 + n % 256 ≡ n
-back n = omega arith
-
 line-of-entry : (t : Entry) (l : List ℕ) → recoveryLine (entryBytes t ++ l) ≡ entryLine t
 unfolding recoveryLine entryLine entryBytes addressBytes two
-line-of-entry t l = rw (back (t .at .cylinder), back (t .at .head))
+line-of-entry t l = rw (two-back (t .at .cylinder), two-back (t .at .head))
 
 lines-of : (ts : List Entry) (l : List ℕ) → recoveryLines (length ts) (entriesBytes ts ++ l) ≡ entryLines ts
 unfolding recoveryLines entriesBytes entryLines entryBytes addressBytes two

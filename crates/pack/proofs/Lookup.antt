@@ -13,7 +13,7 @@ use lib.Dec.{eqb, leb}
 use lib.ListN.{length, getD}
 use borrow.Author.Tests.{eq-eqb, ne-eqb, eqb-true, eqb-false, leb-true, leb-false}
 use Rattle.base.specs.Choice.{pick, opt}
-use Rattle.base.proofs.Choice.{split, opt-some}
+use Rattle.base.proofs.Choice.{split, opt-some, some-is}
 use Rattle.fields.specs.declared.Tagged.{Tagged}
 use Rattle.fields.specs.declared.Tagged.the-variants.{Field, Torn}
 use Rattle.fields.specs.TaggedAt.{taggedAt}
@@ -28,9 +28,6 @@ use Rattle.pack.specs.declared.RecordAt.the-variants.{Located, NoRecord}
 use Rattle.pack.specs.Pack.{Record, Track, Decoded, ledByRecord, ledByHome, nothing, decodeAt, trackIn, numbered}
 use Rattle.pack.specs.Places.{onHome, onRecord, homeIn, homeAt, isTrack, placeIn, recordAt, recordFrom}
 use Rattle.pack.proofs.Decode.{led-by, decode-end, decode-torn, decode-field, decode-home, decode-record, decode-neither}
-
-some-is : {A : Type 0} {a b : A} → some a ≡ some b → a ≡ b
-some-is e = cc
 
 not-none : {A P : Type 0} {a : A} → none ≡ some a → P
 not-none e = let z : _≡_ {A = ℕ} 0 1 = cc in absurd (omega arith)

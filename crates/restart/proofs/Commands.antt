@@ -23,6 +23,8 @@ use borrow.Author.Tests.{lt-ltb, eq-eqb}
 use Rattle.base.specs.Choice.{pick, opt}
 use Rattle.base.specs.Bytes.{part, two, three}
 use Rattle.base.specs.Bits.{bitOn}
+use Rattle.base.proofs.Bytes.{two-back, three-back}
+use Rattle.base.proofs.Choice.{and-true}
 use Rattle.address.specs.declared.Address.{Address}
 use Rattle.address.specs.Order.{onPack}
 use Rattle.pack.specs.Pack.{Track, trackIn}
@@ -110,18 +112,8 @@ lastAt m false = countAt m
 
 -- ---- bytes
 
-two-bytes : (n : ℕ) → n / 256 * 256 + n % 256 ≡ n
-two-bytes n = omega arith
-
-three-bytes : (n : ℕ) → n / 65536 * 65536 + (n / 256 % 256 * 256 + n % 256) ≡ n
-three-bytes n = omega arith
-
 tic-bytes : (to : ℕ) → _≡_ {A = Option Ccw} (some (ticCcw (to / 65536 * 65536 + (to / 256 % 256 * 256 + to % 256)))) (some (ticCcw to))
-tic-bytes to = ap (λ n. some (ticCcw n)) (three-bytes to)
-
-and-true : (b : Bool) → b && true ≡ b
-and-true true = refl
-and-true false = refl
+tic-bytes to = ap (λ n. some (ticCcw n)) (three-back to)
 
 -- on one track identifiers are equal where record numbers are
 same-track : (a : Address) (r s : ℕ) → Drive.sameBytes (Drive.addressBytes a ++ r ∷ []) (Drive.addressBytes a ++ s ∷ []) ≡ eqb r s
@@ -179,7 +171,7 @@ module _ (w : Setting) (a : Address) (sector r to : ℕ) where
     pub execute-seek : (d : Drive) → d .mask ≡ Unset → onPack (w .last) a ≡ true
         → execute w′ (Restart k) seekCcw d st ≡ answer (on (k + 8) (placed a Unset 0 false))
     unfolding pick two part bitOn Ccw.chainsData Ccw.chainsCommand Ccw.formed Ccw.next Ccw.argumentsAt Ccw.argumentsBase Ccw.argumentInside Ccw.argument Drive.atIndex Drive.addressBytes Command.codes Command.lookUp Command.commandOf Step.onward Step.done Step.counted Step.planSeek Step.protects Step.sought Step.sound Step.perform Step.execute Program.padded Program.maskByte Program.argumentsOf Program.searchArguments
-    execute-seek d unset on-pack = rw (two-bytes (a .cylinder), two-bytes (a .head), on-pack, unset)
+    execute-seek d unset on-pack = rw (two-back (a .cylinder), two-back (a .head), on-pack, unset)
 
     pub execute-mask : (d : Drive) (b : ℕ) → m ≡ Set b → d .mask ≡ Unset → Step.settable b ≡ true
         → execute w′ (Restart k) maskCcw d st ≡ answer (on (k + 8) (placed (d .at) m 0 false))

@@ -14,7 +14,7 @@ use lib.Dec.{eqb, ltb, leb}
 use lib.ListN.{length, getD, set, take, replicate}
 use borrow.Author.Tests.{eq-eqb, ne-eqb, eqb-true, eqb-false, lt-ltb, le-ltb, ltb-true, ltb-false, le-leb, lt-leb, leb-true}
 use Rattle.base.specs.Choice.{pick}
-use Rattle.base.proofs.Choice.{split, pick-true, pick-false}
+use Rattle.base.proofs.Choice.{split, pick-true, pick-false, and-second}
 use Rattle.channel.specs.declared.Ccw.{Ccw}
 use Rattle.channel.specs.Ccw.{skips}
 use Rattle.channel.specs.Walk.{placeUnder}
@@ -121,10 +121,6 @@ unless-struck : (q : Option ℕ) (qs : List (Option ℕ)) → overwritten q qs �
 unfolding unless
 unless-struck q qs e = pick-true none q e
 
-and-no : (a : Bool) {b : Bool} → b ≡ false → (a && b) ≡ false
-and-no true h = h
-and-no false h = refl
-
 unless-spot : (c : Ccw) (n : ℕ) (q : Option ℕ) → skips c ≡ false → spotOf (unless q (placesUnder c (c .address) n)) ≡ pick (strikes c n (spotOf q)) Nowhere (spotOf q)
 unfolding strikes
 unless-spot c n none s = ap spotOf (nowhere-stays (placesUnder c (c .address) n)) ∙ sym (pick-false Nowhere Nowhere refl)
@@ -144,7 +140,7 @@ unless-spot c n (some b) s =
     (λ f.
     let m : c .address + n ≤ b = ltb-false _ _ f in
     ap spotOf (unless-free (some b) (placesUnder c (c .address) n) (struck-above c s b (c .address) n m))
-    ∙ sym (pick-false Nowhere (At b) (and-no (leb (c .address) b) f))))
+    ∙ sym (pick-false Nowhere (At b) (and-second (leb (c .address) b) f))))
 
 module _ (ps : List (Option ℕ)) (c : Ccw) (n j : ℕ) where
   abbrev qs : List (Option ℕ)
@@ -176,7 +172,7 @@ module _ (ps : List (Option ℕ)) (c : Ccw) (n j : ℕ) where
       (λ f.
       let m : length ps + n ≤ j = ltb-false _ _ f in
       ap spotOf (final-behind ps qs j k ∙ final-past qs (j - length ps) (rw (length-placesUnder c (c .address) n) (omega arith)))
-      ∙ sym (pick-false _ _ (and-no (leb (length ps) j) f) ∙ rw (final-past ps j k) (pick-false Nowhere Nowhere refl))))
+      ∙ sym (pick-false _ _ (and-second (leb (length ps) j) f) ∙ rw (final-past ps j k) (pick-false Nowhere Nowhere refl))))
 
   pub passes : spotOf (finalAt (ps ++ qs) j) ≡ passed c (length ps) n j (spotOf (finalAt ps j))
   unfolding passed unlessStruck

@@ -2,18 +2,17 @@
 --   parts-shown, parts-stored      the reading of the parts: its lines, and storage behind it
 --   bad-shown, bad-stored          an input whose parts are not there
 --   whole-shown, whole-stored      an input whose parts are
---   ordered, within                the parts lie in the input, the text in its area
+--   ordered                        the parts lie in the input
 use Prim.Native.Nat.{ℕ, _+_, _-_, _≤_}
 use native.Mathlib.Omega.{arith}
 use mathlib.Core.Path.{_≡_, refl, ap, sym, _∙_}
 use mathlib.Core.Option.{Option, none, some}
 use mathlib.Core.List.{List}
-use lib.ListN.{length, take, drop, replicate, length-drop}
-use lib.Seq.{take-all}
+use lib.ListN.{length, take, drop, replicate}
 use Rattle.base.specs.Choice.{opt}
 use Rattle.base.specs.Bytes.{part}
+use Rattle.base.proofs.Bytes.{to-end}
 use Rattle.text.specs.Text.{Puts}
-use Rattle.text.proofs.Written.{same-length-of-puts}
 use Rattle.questions.specs.declared.Question.the-variants as Question
 use Rattle.whole.specs.declared.Outcome.{Outcome}
 use Rattle.whole.specs.declared.Outcome.the-variants.{Refused}
@@ -28,9 +27,6 @@ use Rattle.session.specs.Session.{readingOf, shown, answered, textOf}
 
 -- ---- the parts
 
-tail : (s : List ℕ) (a : ℕ) → take (length s - a) (drop a s) ≡ drop a s
-tail s a = take-all (length s - a) (drop a s) (rw length-drop (omega arith))
-
 module _ (s st st′ p′ a′ l′ : List ℕ) (p : Places) (r : Outcome)
     (e : behind r st′ p′ a′ l′
     ≡ readingCall (take (p .second - p .chain) (drop (p .chain) s)) (take (p .third - p .arguments) (drop (p .arguments) s)) st
@@ -38,7 +34,7 @@ module _ (s st st′ p′ a′ l′ : List ℕ) (p : Places) (r : Outcome)
     (take (p .faults - p .extent) (drop (p .extent) s)) 4096 (replicate 64 0) (replicate 16 0) (replicate 24576 0)) where
   read-is : behind r st′ p′ a′ l′ ≡ readingOf (partsIn s p) st
   unfolding readingOf part
-  read-is = e ∙ rw (tail s (p .image))
+  read-is = e ∙ rw (to-end s (p .image))
 
   pub parts-shown : {x y : List ℕ} {n : ℕ} → Puts x 0 (answerText r st′ l′) y n → Puts x 0 (shown (readingOf (partsIn s p) st)) y n
   unfolding shown
@@ -76,6 +72,3 @@ module _ (s st : List ℕ) {f : Code.Found} (e : foundIn s f ≡ partsOf s) wher
 
 pub ordered : {f : Code.Found} {p : Places} {n : ℕ} → f ≡ At p → Inside f n → Ordered p n
 ordered e h = rw e at h
-
-pub within : {x y t : List ℕ} {at n : ℕ} → Puts x at t y n → n ≤ length x → n ≤ length y
-within p h = rw (same-length-of-puts p) h

@@ -4,18 +4,18 @@
 --   long-report                    the length of such a report
 --   parts-put                      the text for the parts
 --   bad-put, whole-put             an input without its parts, and one with them
---   ordered, within                the parts lie in the input, the text in its area
+--   ordered                        the parts lie in the input
 use Prim.Native.Nat.{ℕ, _+_, _-_, _≤_}
 use native.Mathlib.Omega.{arith}
 use mathlib.Core.Path.{_≡_, refl, ap, sym, _∙_}
 use mathlib.Core.Option.{Option, none, some}
 use mathlib.Core.List.{List, [], _++_}
-use lib.ListN.{length, take, drop, replicate, length-drop}
-use lib.Seq.{take-all}
+use lib.ListN.{length, take, drop, replicate}
 use Rattle.base.specs.Choice.{opt}
 use Rattle.base.specs.Bytes.{part}
+use Rattle.base.proofs.Bytes.{to-end}
 use Rattle.text.specs.Text.{Puts, ascii}
-use Rattle.text.proofs.Written.{puts-then, same-length-of-puts}
+use Rattle.text.proofs.Written.{puts-then}
 use Rattle.questions.specs.declared.Question.the-variants as Question
 use Rattle.recovery.specs.Report.{reportFrom}
 use Rattle.report.specs.declared.Report as Code
@@ -60,16 +60,13 @@ long-report s {o} {w} h b =
 
 -- ---- the parts
 
-tail : (s : List ℕ) (a : ℕ) → take (length s - a) (drop a s) ≡ drop a s
-tail s a = take-all (length s - a) (drop a s) (rw length-drop (omega arith))
-
 module _ (s : List ℕ) (p : Places) (o : Recovered) (st q a : List ℕ)
     (e : with o st q a
     ≡ recoverCall (take (p .report - p .chain) (drop (p .chain) s)) (take (p .end - p .report) (drop (p .report) s))
     (take (length s - p .extent) (drop (p .extent) s)) (replicate 65536 0) (replicate 64 0) (replicate 16 0)) where
   recovered : with o st q a ≡ recoveryOf (partsIn s p)
   unfolding recoveryOf part
-  recovered = e ∙ rw (tail s (p .extent))
+  recovered = e ∙ rw (to-end s (p .extent))
 
   pub parts-put : {x y₁ y : List ℕ} {r₁ r : ℕ} → Puts x 0 (ccwLines (ascii "ccw") 0 (take (p .report - p .chain) (drop (p .chain) s)) [] 256) y₁ r₁
       → Puts y₁ r₁ (reportText o (senseOf (take (p .end - p .report) (drop (p .report) s))) st q a) y r → Puts x 0 (explained (partsIn s p)) y r
@@ -89,6 +86,3 @@ module _ (s : List ℕ) (f : Found.Found) (e : foundIn s f ≡ partsOf s) where
 
 pub ordered : {f : Found.Found} {p : Places} {n : ℕ} → f ≡ At p → Inside f n → Ordered p n
 ordered e h = rw e at h
-
-pub within : {x y t : List ℕ} {at n : ℕ} → Puts x at t y n → n ≤ length x → n ≤ length y
-within p h = rw (same-length-of-puts p) h

@@ -10,6 +10,7 @@
 --   put-turn, digits-turn     one turn of a loop that puts bytes, or digits
 --   put-end, digits-end       its end
 --   same-length-of-puts       an area keeps its length where a text is put
+--   within                    the place behind a text lies in the area
 --   puts-then, puts-none      a text behind a text; no text
 --   puts-digits, puts-number  digits, and a space in front of them
 --   first-kept                an area keeps its length where a byte is stored and a text is put
@@ -106,6 +107,9 @@ digits-end x at base (suc k) n h = absurd (not-suc-le-zero h)
 module _ {x y s : List ℕ} {at r : ℕ} where
   pub same-length-of-puts : Puts x at s y r → length y ≡ length x
   same-length-of-puts p = rw (p .bytes) (length-written x at s)
+
+  pub within : Puts x at s y r → r ≤ length x → r ≤ length y
+  within p h = rw (same-length-of-puts p) h
 
   pub puts-then : {t z : List ℕ} {q : ℕ} → Puts x at s y r → Puts y r t z q → Puts x at (s ++ t) z q
   puts-then {t} {z} {q} p o = record {

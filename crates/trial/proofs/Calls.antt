@@ -15,7 +15,7 @@ use lib.Dec.{eqb, leb}
 use lib.ListN.{length}
 use borrow.Author.Tests.{leb-true, eqb-true}
 use Rattle.base.specs.Choice.{pick, opt}
-use Rattle.base.proofs.Choice.{pick-true, pick-false, and-left, and-right}
+use Rattle.base.proofs.Choice.{pick-true, pick-false, and-left, and-right, and-true}
 use Rattle.questions.specs.declared.Question.the-variants as Question
 use Rattle.questions.specs.Areas.{chainFits, argumentsFit, storageFits, imageFits, faultsFit, limitFits, runAreas, restartAreas}
 use Rattle.address.specs.Order.{lastCylinder}
@@ -35,10 +35,6 @@ use Rattle.trial.specs.Run.{ranOf}
 use Rattle.trial.specs.Trial.{storageOf, Conclusion, refusal, concluded, begin, runCall, restartLimit, restartedAreas, restartCall, conclusionOf}
 
 -- ---- question 1
-
-and-true : (a : Bool) → (a && true) ≡ a
-and-true true = refl
-and-true false = refl
 
 module _ (chain arguments storage image faults limit : ℕ) (h : runAreas chain arguments storage image faults limit ≡ true) where
   pub short-chain : chain ≤ 2048

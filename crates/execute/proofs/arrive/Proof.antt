@@ -1,5 +1,6 @@
 -- `execute::arrive` meets its contract: a copy, then the pattern in it. Assumes nothing.
-use Rattle.execute.proofs.Moves.{front, joined, put-back}
+use Rattle.copy.proofs.Lists.{filled}
+use Rattle.execute.proofs.Moves.{joined, put-back}
 use native.Mathlib.Omega.{arith}
 use mathlib.Core.Path.{_≡_, refl, ap, sym, _∙_}
 use lib.ListN.{length, take, drop}
@@ -18,12 +19,12 @@ slice-relend-prefix-arrive c = search needs
 slice-aggregate-arrive : tie.Need-slice-aggregate-arrive
 slice-aggregate-arrive c =
     let start = c .before .before .before .before .before .before .before .before .args in
-    sym (ap length (front (start .bytes .now) (start .held .now) _ (c .before .before .before .before .put .ensures)))
+    sym (ap length (filled (start .bytes .now) (start .held .now) _ (c .before .before .before .before .put .ensures)))
 
 arrive-requires : tie.Need-arrive-requires
 arrive-requires c κs =
     let start = c .before .before .before .before .before .before .before .before in
-    let n = ap length (front (start .args .bytes .now) (start .args .held .now) _ (c .before .before .before .before .put .ensures)) in
+    let n = ap length (filled (start .args .bytes .now) (start .args .held .now) _ (c .before .before .before .before .put .ensures)) in
     omega (arith, n, start .pre .1 .1)
 
 same-length : tie.Need-same-length
@@ -38,7 +39,7 @@ returns c =
     let put = c .before .before .before .before .before .before .before .put .ensures in
     let n = put-back bs z _ (c .before .before .arrive .last .0) put (start .pre .0) (same-length c) in
     let there = c .before .before .arrive .ensures (faultFrom (start .args .f)) refl refl in
-    (joined (length bs) _ _ n ∙ there ∙ ap (λ s. arriving s (faultFrom (start .args .f))) (front bs z _ put), same-length c)
+    (joined (length bs) _ _ n ∙ there ∙ ap (λ s. arriving s (faultFrom (start .args .f))) (filled bs z _ put), same-length c)
 
 pub arrive-spec : {M : Type 1} → statement M
 arrive-spec =

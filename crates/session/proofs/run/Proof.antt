@@ -2,8 +2,9 @@
 use Prim.Native.Nat.{_≤_}
 use native.Mathlib.Omega.{arith}
 use lib.ListN.{length}
+use Rattle.text.proofs.Written.{within}
 use Rattle.lines.specs.Lines.{room}
-use Rattle.session.proofs.Shown.{bad-shown, bad-stored, whole-shown, whole-stored, ordered, within}
+use Rattle.session.proofs.Shown.{bad-shown, bad-stored, whole-shown, whole-stored, ordered}
 use borrow.Author.Needs.{needs}
 use Rattle.session.proofs.run.Statement.{statement}
 use Rattle.session.proofs.run.Tie as tie

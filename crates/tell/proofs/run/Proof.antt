@@ -1,8 +1,9 @@
 -- `tell::run` meets its contract. Assumes nothing.
 use Prim.Native.Nat.{_≤_}
 use lib.ListN.{length}
+use Rattle.text.proofs.Written.{within}
 use Rattle.tell.specs.Tell.{room}
-use Rattle.tell.proofs.Told.{bad-put, whole-put, ordered, within}
+use Rattle.tell.proofs.Told.{bad-put, whole-put, ordered}
 use borrow.Author.Needs.{needs}
 use native.Mathlib.Omega.{arith}
 use Rattle.tell.proofs.run.Statement.{statement}
