@@ -5,15 +5,20 @@ cd "$(dirname "${BASH_SOURCE[0]}")/.."
 
 # lines DIRECTORY ENDING
 lines() {
-    find "$1" -name "*.$2" -exec cat {} + 2> /dev/null | wc -l
+    if [ -d "$1" ]; then find "$1" -name "*.$2" -exec cat {} + | wc -l; else echo 0; fi
 }
 
-row='%-12s %7s %12s %7s %6s\n'
+# edits DIRECTORY
+edits() {
+    if [ -d "$1" ]; then find "$1" -name '*.edit' | wc -l; else echo 0; fi
+}
+
+row='%-18s %7s %12s %7s %6s\n'
 printf "$row" crate code definitions proof edits
 sums=(0 0 0 0)
 while IFS=: read -r crate _; do
     counts=("$(lines "crates/$crate/src" rt)" "$(lines "crates/$crate/specs" antt)" "$(lines "crates/$crate/proofs" antt)"
-        "$(find "crates/$crate/must-fail" -name '*.edit' 2> /dev/null | wc -l)")
+        "$(edits "crates/$crate/must-fail")")
     printf "$row" "$crate" "${counts[@]}"
     for i in 0 1 2 3; do sums[i]=$((sums[i] + counts[i])); done
 done < <(grep '^[a-z]' crates.txt)

@@ -29,11 +29,11 @@
 extern "C" {
 #endif
 
-/* Returned besides the questions' numbers. */
+/* Returned besides the number of a question, which is 1 to 63. */
 enum {
     GIRUVE_DONE = 0,     /* accepted, ended or answered */
-    GIRUVE_LIMIT = 10,   /* a run or a reading ended as "limit" */
-    GIRUVE_STOPPED = 11  /* a reading ended as "stopped" */
+    GIRUVE_LIMIT = 64,   /* a run or a reading ended as "limit" */
+    GIRUVE_STOPPED = 65  /* a reading ended as "stopped" */
 };
 
 /* Lengths of areas. */

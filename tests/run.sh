@@ -1,7 +1,7 @@
 #!/usr/bin/env bash
-# Proves every crate, builds library and programs, and runs every test: the simulator's own; the hand-written cases of runs, of recoveries
-# and of whole readings on simulator and library; library against simulator; the C example; the programs on their samples; the edits of
-# the definitions that demand 3 must not survive.
+# Proves every crate, builds library and programs, and runs every test but that of the text (tests/tidy.sh): the simulator's own; the
+# hand-written cases of runs, of recoveries and of whole readings on simulator and library; library against simulator; the C example; the
+# programs on their samples; the edits of the definitions that demand 3 must not survive.
 set -euo pipefail
 cd "$(dirname "${BASH_SOURCE[0]}")/.."
 

@@ -1,10 +1,10 @@
 #!/usr/bin/env bash
-# Edits of the definitions that make demand 3 false. Each is applied in a copy of the crates; then the theorem (crate `law`), or a law that
-# it rests on, must no longer be proved. An edit: `# why`, `file: PATH`, then pairs of `old: TEXT` and `new: TEXT`.
+# Edits of the definitions that make demand 3 false. Each is applied in a copy of the crates; then the theorem (crate `demand_three`), or a law
+# that it rests on, must no longer be proved. An edit: `# why`, `file: PATH`, then pairs of `old: TEXT` and `new: TEXT`.
 set -euo pipefail
 cd "$(dirname "${BASH_SOURCE[0]}")/.."
 
-rt check law > /dev/null
+rt check demand_three > /dev/null
 copy=$(mktemp -d)
 trap 'rm -rf "$copy"' EXIT
 cp -r crates crates.txt target "$copy"
@@ -32,11 +32,11 @@ apply() {
 refused=0
 for edit in tests/theorem/*.edit; do
     apply "$edit"
-    if (cd "$copy" && rt check law) > "$copy/log" 2>&1; then
+    if (cd "$copy" && rt check demand_three) > "$copy/log" 2>&1; then
         echo "$edit: demand 3 is still proved"
         exit 1
     fi
-    if ! grep -q 'law NOT PROVED' "$copy/log" || grep -q 'has no `Need-' "$copy/log"; then
+    if ! grep -q 'demand_three NOT PROVED' "$copy/log" || grep -q 'has no `Need-' "$copy/log"; then
         echo "$edit: not refused by a fact"
         cat "$copy/log"
         exit 1

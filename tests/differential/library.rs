@@ -48,7 +48,7 @@ extern "C" {
 
 /// What a run answers where no question refuses it.
 pub const ENDED: u8 = 0;
-pub const LIMIT: u8 = 10;
+pub const LIMIT: u8 = 64;
 
 /// Bytes of the area that a run answers in: CSW, sense, whether a mask was set, that mask, address
 /// of the first CCW of a read that was cut.
@@ -90,7 +90,7 @@ pub struct RecoveryAreas<'a> {
 }
 
 /// What a reading answers besides `ENDED` and `LIMIT` where no question refuses it.
-pub const STOPPED: u8 = 11;
+pub const STOPPED: u8 = 65;
 
 /// The first byte of an entry of its list.
 pub const ACTION_5: u8 = 0x05;

@@ -1,5 +1,6 @@
 //! How often each answer, each broken rule and each mark of a run, a recovery or a reading was seen.
 
+use crate::library::{LIMIT, STOPPED};
 use crate::marks::Mark;
 use crate::reading_marks::ReadingMark;
 use crate::recovery_marks::RecoveryMark;
@@ -41,11 +42,11 @@ pub const CHECK_RESTART_AREAS: Call = Call {
 
 pub const RUN: Call = Call {
     name: "giruve_run",
-    answers: &[0, 1, 2, 3, 10],
+    answers: &[0, 1, 2, 3, LIMIT],
 };
 pub const RUN_RESTART: Call = Call {
     name: "giruve_run_restart",
-    answers: &[0, 1, 2, 3, 10],
+    answers: &[0, 1, 2, 3, LIMIT],
 };
 
 pub const RECOVER: Call = Call {
@@ -55,7 +56,7 @@ pub const RECOVER: Call = Call {
 
 pub const READING: Call = Call {
     name: "giruve_reading",
-    answers: &[0, 1, 2, 3, 5, 10, 11],
+    answers: &[0, 1, 2, 3, 5, LIMIT, STOPPED],
 };
 
 const CALLS: [Call; 9] = [

@@ -8,6 +8,7 @@ use Rattle.address.specs.declared.Address.{Address}
 abbrev pub lastCylinder : ℕ
 lastCylinder = 410
 
+-- one track: the same cylinder and the same head
 unfoldable pub same : Address → Address → Bool
 same a b = eqb (a .cylinder) (b .cylinder) && eqb (a .head) (b .head)
 

@@ -13,6 +13,7 @@ use Rattle.address.specs.declared.Address.{Address}
 use Rattle.address.specs.declared.Extent.{Extent}
 use Rattle.address.specs.Order.{lastCylinder, before, onPack}
 
+-- "8 bytes, first and last track as cylinder 2, head 2"; whether there are 8 is asked apart
 unfoldable pub extentOf : List ℕ → Extent
 extentOf s = record {
   first = record { cylinder = be16At s 0; head = be16At s 2 };

@@ -15,9 +15,10 @@ be24At s at = getD s at 0 * 65536 + be16At s (at + 1)
 unfoldable pub part : List ℕ → ℕ → ℕ → List ℕ
 part s a e = take (e - a) (drop a s)
 
--- a number as two bytes, and as three
+-- a number as two bytes, the highest first
 unfoldable pub two : ℕ → List ℕ
 two n = n / 256 ∷ n % 256 ∷ []
 
+-- a number as three bytes, the highest first
 unfoldable pub three : ℕ → List ℕ
 three n = n / 65536 ∷ n / 256 % 256 ∷ n % 256 ∷ []

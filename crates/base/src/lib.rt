@@ -3,7 +3,7 @@ ghost use mathlib.Core.Path.{_≡_};
 ghost use Prim.Native.Nat.{_+_, _-_, _<_, _≤_};
 ghost use lib.ListN.{length, getD};
 ghost use Rattle.base.specs.Bytes.{be16At, be24At};
-ghost use Rattle.base.specs.Bits.{bitOn};
+ghost use Rattle.base.specs.Bits.{bitOn, xoredAt};
 
 // A byte as a number, with its bound.
 pub fn wide(x: u8) -> usize
@@ -46,6 +46,15 @@ pub fn bit(x: u8, k: u8) -> bool
     ensures { λ r. ⌜ r ≡ bitOn k x ⌝ }
 {
     (x >> (7 - k)) & 1 == 1
+}
+
+// x exclusive-ored into the byte at a place, if that is inside.
+pub fn exclusive_or(bytes: &mut [u8], at: usize, x: u8)
+    ensures { λ _. ⌜ now (bytes .exit) ≡ xoredAt at x (now (bytes .entry)) ⌝ }
+{
+    if at < bytes.len() {
+        bytes[at] ^= x;
+    }
 }
 
 // A count of bytes from the front of a read.

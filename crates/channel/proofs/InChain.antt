@@ -24,7 +24,7 @@ use Rattle.channel.specs.declared.Location.the-variants.{Chain, Restart}
 use Rattle.channel.specs.declared.Fetched.{Fetched}
 use Rattle.channel.specs.declared.Fetched.the-variants.{Got, Broken}
 use Rattle.channel.specs.Ccw.{Lent, next, fetchIn, fetch, target, landed, follow, resolve, argumentsAt, argumentInside, argument}
-use Rattle.channel.specs.Walk.{Walk, walked, stopped, behindPlace, placeUnder, chained, walk}
+use Rattle.channel.specs.Walk.{Walk, walked, checked, behindPlace, placeUnder, chained, walk}
 
 abbrev pub InChain : Location → Type 0
 InChain (Chain a) = Unit {0}
@@ -36,7 +36,7 @@ FetchedIn (Broken l) = Unit {0}
 
 abbrev pub WalkIn : Walk → Type 0
 WalkIn (walked ps l c left over) = InChain l
-WalkIn (stopped ps l) = Unit {0}
+WalkIn (checked ps l) = Unit {0}
 
 -- ---- the chain leads to the chain
 
@@ -63,7 +63,7 @@ resolve-in p last l h = follow-in p last l (fetch p l) h
 behindPlace-in : (q : Option ℕ) (w : Walk) → WalkIn w → WalkIn (behindPlace q w)
 unfolding behindPlace
 behindPlace-in q (walked ps l c left over) h = h
-behindPlace-in q (stopped ps l) h = tt
+behindPlace-in q (checked ps l) h = tt
 
 chained-in : (on : Location → Ccw → ℕ → ℕ → Walk) (size : ℕ) (g : Fetched) → FetchedIn g
     → ((l : Location) (c : Ccw) (left a : ℕ) → InChain l → WalkIn (on l c left a)) → WalkIn (chained on size g)
@@ -83,18 +83,18 @@ walk-in p size (suc n) l c (suc left) a h =
 
 -- the chain with other areas beside it
 abbrev pub beside : Lent → List ℕ → List ℕ → List ℕ → Lent
-beside p arguments program restarts = record { chain = p .chain; arguments = arguments; program = program; restartArguments = restarts }
+beside p arguments program restartArguments = record { chain = p .chain; arguments = arguments; program = program; restartArguments = restartArguments }
 
-module _ (p : Lent) (arguments program restarts : List ℕ) where
+module _ (p : Lent) (arguments program restartArguments : List ℕ) where
   abbrev q : Lent
-  q = beside p arguments program restarts
+  q = beside p arguments program restartArguments
 
   follow-same : (last : Location) (a : ℕ) (o : Option Ccw) → follow q last (Chain a) o ≡ follow p last (Chain a) o
   unfolding follow fetch target
   follow-same last a none = refl
   follow-same last a (some c) = refl
 
-  pub resolve-same : (last l : Location) → InChain l → resolve (beside p arguments program restarts) last l ≡ resolve p last l
+  pub resolve-same : (last l : Location) → InChain l → resolve (beside p arguments program restartArguments) last l ≡ resolve p last l
   unfolding resolve fetch
   resolve-same last (Chain a) h = follow-same last a (fetchIn (p .chain) a)
   resolve-same last (Restart a) h = absurd h
@@ -107,7 +107,7 @@ module _ (p : Lent) (arguments program restarts : List ℕ) where
   chained-same size n (Got l c) h f = choose _ (f l c (c .count) (c .address) h) refl
 
   pub walk-same : (size n : ℕ) (l : Location) (c : Ccw) (left a : ℕ) → InChain l
-      → walk (beside p arguments program restarts) size n l c left a ≡ walk p size n l c left a
+      → walk (beside p arguments program restartArguments) size n l c left a ≡ walk p size n l c left a
   unfolding walk
   walk-same size zero l c left a h = refl
   walk-same size (suc n) l c zero a h = refl

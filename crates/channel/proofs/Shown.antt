@@ -21,7 +21,7 @@ use Rattle.channel.specs.declared.Fetched.{Fetched}
 use Rattle.channel.specs.declared.Fetched.the-variants.{Got, Broken}
 use Rattle.channel.specs.Ccw.{Lent, next, fetchIn, fetch, landed, follow, resolve}
 use Rattle.channel.specs.Fetch.{Inside}
-use Rattle.channel.specs.Walk.{Walk, walked, stopped, behindPlace, placeUnder, chained, walk}
+use Rattle.channel.specs.Walk.{Walk, walked, checked, behindPlace, placeUnder, chained, walk}
 
 module _ (P : Location → Type 0) where
   abbrev pub Shown : Fetched → Type 0
@@ -30,12 +30,12 @@ module _ (P : Location → Type 0) where
 
   abbrev pub WalkShown : Walk → Type 0
   WalkShown (walked ps l c left over) = P l
-  WalkShown (stopped ps l) = P l
+  WalkShown (checked ps l) = P l
 
   behindPlace-shown : (q : Option ℕ) (w : Walk) → WalkShown w → WalkShown (behindPlace q w)
   unfolding behindPlace
   behindPlace-shown q (walked ps l c left over) h = h
-  behindPlace-shown q (stopped ps l) h = h
+  behindPlace-shown q (checked ps l) h = h
 
   chained-shown : (on : Location → Ccw → ℕ → ℕ → Walk) (size : ℕ) (g : Fetched) → Shown g
       → ((l : Location) (c : Ccw) (left a : ℕ) → P l → WalkShown (on l c left a)) → WalkShown (chained on size g)

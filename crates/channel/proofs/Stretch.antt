@@ -3,11 +3,12 @@
 --   behindPlaces           places in front of a walk
 --   length-placesUnder     how many places they are
 --   behindPlaces-walked    places in front of a walk's places
---   behindPlaces-stopped   the same where a program check stopped it
+--   behindPlaces-checked   the same where a program check stopped it
 --   behindPlaces-append    places in front of places in front
 --   walk-short             the bytes end before the count does
 --   walk-fits              the bytes do not pass the count of a CCW without CD
 --   walk-over              they pass it
+--   walk-out               both in one
 --   walk-chained           the count of a CCW with CD runs out: the walk goes on with the next CCW
 --   length-put             storing a byte keeps storage's length
 --   length-store           so does storing a read
@@ -20,17 +21,19 @@ use mathlib.Core.Path.{_≡_, refl, ap, _∙_}
 use mathlib.Core.Bool.{Bool, true, false}
 use mathlib.Core.Option.{Option, none, some}
 use mathlib.Core.List.{List, [], _∷_, _++_, append-assoc}
+use lib.Dec.{ltb}
 use lib.ListN.{length, take, drop, length-set}
 use lib.Seq.{sets, sets-eq, length-take-le}
 use native.Mathlib.Numerals.{add-one}
 use native.Mathlib.Omega.{arith}
-use borrow.Author.Tests.{ne-eqb}
+use borrow.Author.Tests.{ne-eqb, ltb-true, ltb-false}
 use Rattle.base.specs.Choice.{pick}
+use Rattle.base.proofs.Choice.{split}
 use Rattle.channel.specs.declared.Ccw.{Ccw}
 use Rattle.channel.specs.declared.Location.{Location}
 use Rattle.channel.specs.Ccw.{Lent, chainsData, skips, next, resolve}
 use Rattle.channel.specs.Store.{put, store}
-use Rattle.channel.specs.Walk.{Walk, walked, stopped, behindPlace, placeUnder, chained, walk}
+use Rattle.channel.specs.Walk.{Walk, walked, checked, behindPlace, placeUnder, chained, walk}
 
 -- the places of m bytes under one CCW, from address a on
 unfoldable pub placesUnder : Ccw → ℕ → ℕ → List (Option ℕ)
@@ -53,10 +56,10 @@ unfolding behindPlaces behindPlace
 behindPlaces-walked [] qs l c left over = refl
 behindPlaces-walked (q ∷ ps) qs l c left over = ap (behindPlace q) (behindPlaces-walked ps qs l c left over)
 
-pub behindPlaces-stopped : (ps qs : List (Option ℕ)) (l : Location) → behindPlaces ps (stopped qs l) ≡ stopped (ps ++ qs) l
+pub behindPlaces-checked : (ps qs : List (Option ℕ)) (l : Location) → behindPlaces ps (checked qs l) ≡ checked (ps ++ qs) l
 unfolding behindPlaces behindPlace
-behindPlaces-stopped [] qs l = refl
-behindPlaces-stopped (q ∷ ps) qs l = ap (behindPlace q) (behindPlaces-stopped ps qs l)
+behindPlaces-checked [] qs l = refl
+behindPlaces-checked (q ∷ ps) qs l = ap (behindPlace q) (behindPlaces-checked ps qs l)
 
 pub behindPlaces-append : (ps qs : List (Option ℕ)) (w : Walk) → behindPlaces (ps ++ qs) w ≡ behindPlaces ps (behindPlaces qs w)
 unfolding behindPlaces
@@ -98,6 +101,18 @@ module _ (p : Lent) (size : ℕ) where
   walk-over (suc n) l c zero a h k = refl
   walk-over (suc n) l c (suc left) a h k =
       walk-one n l c left a (λ z. k) ∙ ap (behindPlace (placeUnder c a)) (walk-over n l c left (a + 1) (omega arith) k)
+
+  -- the count runs out with no CCW chained: bytes are left over where there are more
+  pub walk-out : (n : ℕ) (l : Location) (c : Ccw) (k a : ℕ) → k ≤ n → chainsData c ≡ false
+      → walk p size n l c k a ≡ behindPlaces (placesUnder c a k) (walked [] l c 0 (ltb k n))
+  walk-out n l c k a h f =
+      split (ltb k n) (λ e. rw e (walk-over n l c k a (ltb-true _ _ e) f))
+      (λ e.
+      let g : n ≤ k = ltb-false k n e in
+      let q : n ≡ k = omega arith in
+      let z : k - n ≡ 0 = omega arith in
+      let w = walk-fits n l c k a g f in
+      rw e (w ∙ rw z (ap (λ m. behindPlaces (placesUnder c a m) (walked [] l c 0 false)) q)))
 
   pub walk-chained : (n : ℕ) (l : Location) (c : Ccw) (left a : ℕ) → 0 < left → left ≤ n → chainsData c ≡ true
       → walk p size n l c left a ≡ behindPlaces (placesUnder c a left) (chained (walk p size (n - left)) size (resolve p l (next l)))

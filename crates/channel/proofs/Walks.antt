@@ -17,21 +17,21 @@ use Rattle.channel.specs.declared.Location.{Location}
 use Rattle.channel.specs.declared.Fetched.{Fetched}
 use Rattle.channel.specs.declared.Fetched.the-variants.{Got, Broken}
 use Rattle.channel.specs.Ccw.{Lent, isTic, next, fetch, landed, follow, resolve}
-use Rattle.channel.specs.Walk.{Walk, walked, stopped, behindPlace, placeUnder, chained, walk}
+use Rattle.channel.specs.Walk.{Walk, walked, checked, behindPlace, placeUnder, chained, walk}
 
 -- ---- at most as many places as bytes
 
 pub data Short (n : ℕ) : Walk → Type 0 where
   short-walked : {ps : List (Option ℕ)} {l : Location} {c : Ccw} {left : ℕ} {over : Bool} → length ps ≤ n → Short n (walked ps l c left over)
-  short-stopped : {ps : List (Option ℕ)} {l : Location} → length ps ≤ n → Short n (stopped ps l)
+  short-checked : {ps : List (Option ℕ)} {l : Location} → length ps ≤ n → Short n (checked ps l)
 
 behindPlace-short : (n : ℕ) (q : Option ℕ) (w : Walk) → Short n w → Short (suc n) (behindPlace q w)
 unfolding behindPlace
 behindPlace-short n q (walked ps l c left over) (short-walked h) = short-walked {ps = q ∷ ps} (omega arith)
-behindPlace-short n q (stopped ps l) (short-stopped h) = short-stopped {ps = q ∷ ps} (omega arith)
+behindPlace-short n q (checked ps l) (short-checked h) = short-checked {ps = q ∷ ps} (omega arith)
 
-none-short : (n : ℕ) (l : Location) → Short n (stopped [] l)
-none-short n l = short-stopped {ps = []} (omega arith)
+none-short : (n : ℕ) (l : Location) → Short n (checked [] l)
+none-short n l = short-checked {ps = []} (omega arith)
 
 chained-short : (n : ℕ) (on : Location → Ccw → ℕ → ℕ → Walk) (size : ℕ) (g : Fetched)
     → ((l : Location) (c : Ccw) (left a : ℕ) → Short n (on l c left a)) → Short n (chained on size g)

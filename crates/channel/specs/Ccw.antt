@@ -1,6 +1,6 @@
 -- Channel command words, the areas they stand in and may name, and how the next one is found (document 01, "Channel").
 use Prim.Native.Nat.{ℕ, _+_, _-_, _%_}
-use mathlib.Core.Bool.{Bool, true, false, _&&_, _||_, not}
+use mathlib.Core.Bool.{Bool, _&&_, _||_, not}
 use mathlib.Core.Option.{Option, none, some}
 use mathlib.Core.List.{List}
 use lib.Dec.{eqb, ltb, leb}
@@ -24,12 +24,15 @@ ccwAt s a = record { command = getD s a 0; address = be24At s (a + 1); flags = g
 unfoldable pub chainsData : Ccw → Bool
 chainsData c = bitOn 0 (c .flags)
 
+-- "CC 40": the chain goes on with another command
 unfoldable pub chainsCommand : Ccw → Bool
 chainsCommand c = bitOn 1 (c .flags)
 
+-- "SLI 20", whatever CD is
 unfoldable pub suppresses : Ccw → Bool
 suppresses c = bitOn 2 (c .flags)
 
+-- "skip 10": the bytes of a read under it are not stored
 unfoldable pub skips : Ccw → Bool
 skips c = bitOn 3 (c .flags)
 
@@ -64,6 +67,7 @@ pub record Lent : Type 0 where
 unfoldable pub fetchIn : List ℕ → ℕ → Option Ccw
 fetchIn s a = pick (leb (a + 8) (length s) && eqb (a % 8) 0) (some (ccwAt s a)) none
 
+-- the CCW at a place, in the chain or in the restart program; none where no CCW stands
 unfoldable pub fetch : Lent → Location → Option Ccw
 fetch p (Chain a) = fetchIn (p .chain) a
 fetch p (Restart a) = fetchIn (p .program) a
@@ -80,6 +84,7 @@ unfoldable pub landed : Location → Location → Option Ccw → Fetched
 landed tic l none = Broken tic
 landed tic l (some c) = pick (isTic c) (Broken l) (Got l c)
 
+-- the CCW c at l, or the one to which it leads as a TIC; a program check where there is none, with the CCW that was fetched last
 unfoldable pub follow : Lent → Location → Location → Option Ccw → Fetched
 follow p last l none = Broken last
 follow p last l (some c) = pick (isTic c) (landed l (target l (c .address)) (fetch p (target l (c .address)))) (Got l c)
@@ -90,11 +95,12 @@ resolve p last l = follow p last l (fetch p l)
 
 -- ---- what a CCW may name
 
--- "a control or search command the arguments": their bytes, and the address of the first
+-- "a control or search command the arguments": their bytes
 unfoldable pub argumentsAt : Lent → Location → List ℕ
 argumentsAt p (Chain a) = p .arguments
 argumentsAt p (Restart a) = p .restartArguments
 
+-- the address of the first: "arguments (from 0000)", "restart arguments, 16 bytes at 2000"
 unfoldable pub argumentsBase : Location → ℕ
 argumentsBase (Chain a) = 0
 argumentsBase (Restart a) = 0x2000

@@ -12,16 +12,17 @@ use Rattle.channel.specs.declared.Fetched.{Fetched}
 use Rattle.channel.specs.declared.Fetched.the-variants.{Got, Broken}
 use Rattle.channel.specs.Ccw.{Lent, chainsData, suppresses, skips, formed, next, resolve, storageInside}
 
+-- How a data chain goes: the storage address of each byte that a count takes, none for a skipped byte; and how the read ends.
 pub data Walk : Type 0 where
   -- the places of the bytes; the current CCW with its location and its count left; whether bytes were left over
   walked : List (Option ℕ) → Location → Ccw → ℕ → Bool → Walk
   -- a program check at a data-chained CCW, with the CCW that was fetched last
-  stopped : List (Option ℕ) → Location → Walk
+  checked : List (Option ℕ) → Location → Walk
 
 -- one place in front
 unfoldable pub behindPlace : Option ℕ → Walk → Walk
 behindPlace q (walked ps l c left over) = walked (q ∷ ps) l c left over
-behindPlace q (stopped ps l) = stopped (q ∷ ps) l
+behindPlace q (checked ps l) = checked (q ∷ ps) l
 
 -- "unless a read skips it": a byte's place under a CCW
 unfoldable pub placeUnder : Ccw → ℕ → Option ℕ
@@ -34,8 +35,8 @@ readable size c = formed c && storageInside size c
 -- "When a count runs out under CD the next CCW is fetched immediately; its code matters only if TIC."
 -- `on` goes on with it, its whole count and its address.
 unfoldable pub chained : (Location → Ccw → ℕ → ℕ → Walk) → ℕ → Fetched → Walk
-chained on size (Broken l) = stopped [] l
-chained on size (Got l c) = pick (readable size c) (on l c (c .count) (c .address)) (stopped [] l)
+chained on size (Broken l) = checked [] l
+chained on size (Got l c) = pick (readable size c) (on l c (c .count) (c .address)) (checked [] l)
 
 -- n bytes are still to come, the current CCW has `left` of its count left, and the next byte's address is a.
 unfoldable pub walk : Lent → ℕ → ℕ → Location → Ccw → ℕ → ℕ → Walk

@@ -1,10 +1,10 @@
 // Channel command words: where they stand, how the next one is found, and the bytes of a read through a data chain.
 // No knowledge of disks.
 ghost use mathlib.Core.Path.{_≡_};
-ghost use Prim.Native.Nat.{_+_, _<_, _≤_};
+ghost use Prim.Native.Nat.{_+_, _≤_};
 ghost use lib.ListN.{length};
-ghost use Rattle.channel.specs.Ccw.{ccwAt, formed, isTic, chainsData, chainsCommand, suppresses, skips, storageInside};
-ghost use Rattle.channel.specs.Walk.{readable, incorrectLength};
+ghost use Rattle.channel.specs.Ccw.{ccwAt, isTic, chainsData, chainsCommand};
+ghost use Rattle.channel.specs.Walk.{incorrectLength};
 ghost use Rattle.channel.specs.Fetch.{showsLength, standsAt, standsIn, ccwIn, InBytes, Inside, FetchedFrom, GotInside, Fetches, Resolves};
 
 // A CCW's fields; its ignored byte is left out. Numbers stand before bytes here and in other structs of a step, so that no padding
@@ -27,6 +27,22 @@ pub enum Fetched {
     Got(Location, Ccw),
     Broken(Location),
 }
+
+// Unit status, and that of a command whose end shows neither unit check nor unit exception.
+pub const CHANNEL_END: u8 = 0x08;
+
+pub const DEVICE_END: u8 = 0x04;
+
+pub const UNIT_CHECK: u8 = 0x02;
+
+pub const UNIT_EXCEPTION: u8 = 0x01;
+
+pub const END_STATUS: u8 = CHANNEL_END | DEVICE_END;
+
+// Channel status.
+pub const INCORRECT_LENGTH: u8 = 0x40;
+
+pub const PROGRAM_CHECK: u8 = 0x20;
 
 // The channel status word: its address, the count left, unit and channel status.
 pub struct Csw {

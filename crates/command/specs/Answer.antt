@@ -1,20 +1,12 @@
 -- What a command comes to, as the code has it: the definitions' answers with storage apart.
 use Prim.Native.Nat.{ℕ, _<_}
 use mathlib.Core.Path.{_≡_}
-use mathlib.Core.Bool.{Bool, true, false}
 use mathlib.Core.List.{List, [], _∷_}
-use Rattle.base.specs.Bytes.{be16At}
-use Rattle.address.specs.declared.Address.{Address}
 use Rattle.address.specs.Order.{lastCylinder}
 use Rattle.pack.specs.Pack.{packOf}
-use Rattle.machine.specs.Machine.{goes, ends, cuts}
-use Rattle.channel.specs.declared.Ccw.{Ccw}
-use Rattle.channel.specs.declared.Location.{Location}
-use Rattle.channel.specs.declared.Csw.{Csw}
-use Rattle.channel.specs.Ccw.{Lent, addressOf, argument}
-use Rattle.drive.specs.declared.Command.{Command}
-use Rattle.drive.specs.declared.Command.the-variants.{NoOperation, Seek, SetMask, SetSector, SearchId, ReadHome, ReadRecord, Unlisted}
-use Rattle.drive.specs.Drive as Abstract
+use Rattle.abstract_machine.specs.Machine.{goes, ends, cuts}
+use Rattle.channel.specs.Ccw.{Lent}
+use Rattle.location.specs.Low.{Low, CswLow}
 use Rattle.drive.specs.Step as Step
 use Rattle.position.specs.declared.Drive.{Drive}
 use Rattle.position.specs.declared.Examined.{Examined}
@@ -29,6 +21,7 @@ use Rattle.command.specs.declared.Cut.{Cut}
 use Rattle.command.specs.declared.Answer.{Answer}
 use Rattle.command.specs.declared.Answer.the-variants.{Goes, Ends, Cuts}
 
+-- the code's unit checks as those of the definitions
 abbrev pub checkOf : Check → Step.Check
 checkOf Rejected = Step.rejected
 checkOf NotFound = Step.notFound
@@ -39,12 +32,15 @@ abbrev pub senseOf : Status → List ℕ
 senseOf Quiet = Step.noSense
 senseOf (Refused k) = Step.checkSense (checkOf k)
 
+-- a state between two commands, with storage st
 abbrev pub stateOf : State → List ℕ → Step.State
 stateOf s st = record { at = s .at; last = s .last; left = s .left; drive = driveOf (s .drive); storage = st }
 
+-- a chain's end, its status as sense bytes, with storage st
 abbrev pub endOf : End → List ℕ → Step.End
 endOf e st = record { csw = e .csw; sense = senseOf (e .status); mask = e .mask; storage = st }
 
+-- a cut, its displacements as numbers and its pattern as three bytes, with storage st
 abbrev pub cutOf : Cut → List ℕ → Step.Cut
 cutOf k st = record {
   at = k .at;
@@ -70,15 +66,6 @@ abbrev pub Answers : (List ℕ → Step.Answer) → Answer → Type 0
 Answers f r = (st : List ℕ) → f st ≡ answerOf r st
 
 -- ---- what is kept from command to command
-
--- an address that a CSW can show
-abbrev pub Low : Location → Type 0
-Low l = addressOf l < 0x10000
-
--- The numbers of a CSW fit their bytes; its two status bytes are bytes in the code.
-pub record CswLow (w : Csw) : Type 0 where
-  pub address : w .address < 0x1000000
-  pub count : w .count < 0x10000
 
 -- A CSW can show the CCW that was fetched last, and its count left.
 pub record StateLow (s : State) : Type 0 where
@@ -113,48 +100,10 @@ KeptWith d r = (image : List ℕ) → Standing image d → Kept image r
 abbrev pub KeptBehind : Examined → Answer → Type 0
 KeptBehind x r = (image : List ℕ) → ExaminedStands image x → Kept image r
 
--- ---- control and search commands
-
--- the same of a plan
-abbrev pub Plans : (List ℕ → Step.Plan) → Answer → Type 0
-Plans plan r = (st : List ℕ) → plan st ≡ Step.answer (answerOf r st)
+-- the areas that a run only reads
+abbrev pub lentOf : (chain arguments program restartArguments : List ℕ) → Lent
+lentOf chain arguments program restartArguments = record { chain = chain; arguments = arguments; program = program; restartArguments = restartArguments }
 
 -- what a run is told, in terms of the bytes that are lent to it
-abbrev pub settingOf : Lent → List ℕ → Step.Setting
-settingOf p image = record { last = lastCylinder; pack = packOf image; lent = p }
-
--- The command k of the CCW c at l, on the drive d: it leaves storage as it is, whatever that is.
-abbrev pub Performs : List ℕ → List ℕ → List ℕ → Location → Ccw → Command → Abstract.Drive → Answer → Type 0
-Performs arguments restarts image l c k d r =
-    (p : Lent) (st : List ℕ) → p .arguments ≡ arguments → p .restartArguments ≡ restarts
-    → Step.perform (settingOf p image) l c d st k ≡ Step.answer (answerOf r st)
-
--- two bytes of a CCW's argument
-abbrev pub ArgumentWord : List ℕ → List ℕ → Location → Ccw → ℕ → ℕ → Type 0
-ArgumentWord s r l c k n = (p : Lent) → p .arguments ≡ s → p .restartArguments ≡ r → n ≡ be16At (argument p l c) k
-
--- every seek whose argument begins with the number n, which must be 0, and names the track a
-abbrev pub Seeks : ℕ → Address → Location → Ccw → Abstract.Drive → Answer → Type 0
-Seeks n a l c d r = (g : List ℕ) → be16At g 0 ≡ n → Step.sought g ≡ a → Plans (λ st. Step.planSeek l c d st lastCylinder g) r
-
--- the commands that move no byte of storage
-unfoldable pub moveless : Command → Bool
-moveless NoOperation = true
-moveless Seek = true
-moveless SetMask = true
-moveless SetSector = true
-moveless SearchId = true
-moveless ReadHome = false
-moveless (ReadRecord k) = false
-moveless Unlisted = true
-
--- those that have an argument
-unfoldable pub argues : Command → Bool
-argues NoOperation = false
-argues Seek = true
-argues SetMask = true
-argues SetSector = true
-argues SearchId = true
-argues ReadHome = false
-argues (ReadRecord k) = false
-argues Unlisted = false
+abbrev pub settingWith : Lent → List ℕ → Step.Setting
+settingWith p image = record { last = lastCylinder; pack = packOf image; lent = p }

@@ -4,7 +4,7 @@
 --   tail-lent           what is lent as `&mut x[a..]`
 --   tail-home           the whole after such a part comes home
 --   put-home            the whole after a copy to the front of such a part
-use Prim.Native.Nat.{ℕ, zero, suc, _+_, _-_, _<_, _≤_}
+use Prim.Native.Nat.{ℕ, zero, suc, _+_, _-_, _<_}
 use native.Mathlib.Nat.{not-suc-le-zero, le-of-suc-le-suc}
 use native.Mathlib.Numerals.{add-one}
 use native.Mathlib.Omega.{arith}

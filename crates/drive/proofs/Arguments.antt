@@ -5,7 +5,6 @@
 --   chain-ends, restart-ends       where an argument that is inside ends
 --   chain-byte, restart-byte       a byte of it
 --   seek-in .. search-in           the argument of a command without program check is inside
---   sound-formed, formed-count     a command without program check has a count
 use Prim.Native.Nat.{ℕ, _+_, _-_, _<_, _≤_}
 use native.Mathlib.Omega.{arith}
 use mathlib.Core.Path.{_≡_, refl, sym, _∙_}
@@ -13,7 +12,7 @@ use mathlib.Core.Bool.{Bool, true, false, _&&_}
 use mathlib.Core.List.{List}
 use lib.Dec.{eqb, leb}
 use lib.ListN.{length, getD}
-use borrow.Author.Tests.{le-leb, lt-leb, leb-true, leb-false, eqb-false, ne-eqb, not-true}
+use borrow.Author.Tests.{le-leb, lt-leb, leb-true, leb-false, ne-eqb}
 use Rattle.base.specs.Choice.{pick}
 use Rattle.base.proofs.Choice.{split, and-left, and-right}
 use Rattle.base.proofs.Bytes.{getD-part}
@@ -21,12 +20,10 @@ use Rattle.channel.specs.declared.Ccw.{Ccw}
 use Rattle.channel.specs.declared.Location.{Location}
 use Rattle.channel.specs.declared.Location.the-variants.{Chain, Restart}
 use Rattle.channel.specs.Ccw.{Lent, formed, argumentsAt, argumentsBase, argumentInside, argument}
-use Rattle.channel.specs.Walk.{readable}
-use Rattle.drive.specs.declared.Command.{Command}
-use Rattle.drive.specs.declared.Command.the-variants.{NoOperation, Seek, SetMask, SetSector, SearchId, ReadHome, ReadRecord, Unlisted}
+use Rattle.drive.specs.declared.Command.the-variants.{Seek, SetMask, SetSector, SearchId, Unlisted}
 use Rattle.drive.specs.Command.{codes, lookUp, commandOf}
 use Rattle.drive.specs.Step.{sound}
-use Rattle.drive.specs.Arguments.{argumentsOf, ArgumentIn}
+use Rattle.drive.specs.Arguments.{onlyArguments, ArgumentIn}
 
 -- ---- command codes
 
@@ -97,7 +94,7 @@ module _ (p : Lent) (a : ℕ) (c : Ccw) (k : ℕ) (h : k < c .count) {s : List �
 -- ---- from `sound` to an argument's bytes
 
 -- the areas of CCWs do not matter
-same-inside : (p : Lent) (l : Location) (c : Ccw) → argumentInside p l c ≡ argumentInside (argumentsOf (p .arguments) (p .restartArguments)) l c
+same-inside : (p : Lent) (l : Location) (c : Ccw) → argumentInside p l c ≡ argumentInside (onlyArguments (p .arguments) (p .restartArguments)) l c
 unfolding argumentInside argumentsAt
 same-inside p (Chain a) c = refl
 same-inside p (Restart a) c = refl
@@ -121,20 +118,3 @@ module _ (p : Lent) (l : Location) (size : ℕ) (c : Ccw) where
   pub search-in : sound p l size c SearchId ≡ true → ArgumentIn (p .arguments) (p .restartArguments) l c
   unfolding sound
   search-in = argument-in p l c
-
-  pub sound-formed : (k : Command) → sound p l size c k ≡ true → formed c ≡ true
-  unfolding sound readable
-  sound-formed NoOperation h = h
-  sound-formed Unlisted h = h
-  sound-formed Seek h = and-left _ _ h
-  sound-formed SetMask h = and-left _ _ h
-  sound-formed SetSector h = and-left _ _ h
-  sound-formed SearchId h = and-left _ _ h
-  sound-formed ReadHome h = and-left _ _ h
-  sound-formed (ReadRecord k) h = and-left _ _ h
-
-pub formed-count : (c : Ccw) → formed c ≡ true → 0 < c .count
-unfolding formed
-formed-count c h =
-    let z : c .count ≡ 0 → ⊥ = eqb-false (c .count) 0 (not-true _ (and-left _ _ h)) in
-    omega arith

@@ -1,7 +1,7 @@
 -- Document 01's worked example, by computation: the chain is cut at its first 06, and the faultless run ends with 0C 00 0000.
 use Prim.Native.Nat.{ℕ}
 use mathlib.Core.Path.{_≡_, refl}
-use mathlib.Core.Bool.{true, false}
+use mathlib.Core.Bool.{false}
 use mathlib.Core.List.{List, [], _∷_, _++_}
 use lib.ListN.{replicate}
 use Rattle.base.specs.Choice.{pick, opt}
@@ -10,8 +10,9 @@ use Rattle.base.specs.Bits.{bitOn}
 use Rattle.address.specs.Order.{same, onPack}
 use Rattle.pack.specs.Pack.{Record, Track, trackIn}
 use Rattle.faults.specs.Faults.{Fault, naming}
-use Rattle.machine.specs.Machine.{ended, cut, run, notes}
+use Rattle.abstract_machine.specs.Machine.{ended, cut, run}
 use Rattle.channel.specs.declared.Location.the-variants.{Chain}
+use Rattle.channel.specs.Csw.{cswAt}
 use Rattle.channel.specs.Ccw as Ccw
 use Rattle.channel.specs.Store.{put, store}
 use Rattle.channel.specs.Walk as Walk
@@ -60,7 +61,7 @@ cut-at-the-first-read : Run.runFrom (fault ∷ []) setting 4096 (Chain 0) (repli
       csw = record { address = 0x20; unit = 0x0e; channel = 0; count = 0 };
       storage = 0xc1 ∷ 0xc2 ∷ 0xc2 ∷ 0xc4 ∷ replicate 12 0;
     })
-unfolding chain arguments recordOf pack fault setting pick opt part two bitOn same onPack trackIn naming run put store Ccw.ccwAt Ccw.chainsData Ccw.chainsCommand Ccw.suppresses Ccw.skips Ccw.isTic Ccw.formed Ccw.addressOf Ccw.next Ccw.fetchIn Ccw.fetch Ccw.target Ccw.landed Ccw.follow Ccw.resolve Ccw.argumentsAt Ccw.argumentsBase Ccw.argumentInside Ccw.argument Ccw.storageInside Walk.behindPlace Walk.placeUnder Walk.readable Walk.chained Walk.walk Walk.incorrectLength Drive.initial Drive.atIndex Drive.behind Drive.turn Drive.passesIndex Drive.pastZero Drive.taken Drive.addressBytes Drive.identifier Drive.countArea Drive.sameBytes Command.codes Command.lookUp Command.commandOf Step.cswAt Step.onward Step.done Step.counted Step.planSeek Step.protects Step.sought Step.passesNow Step.examine Step.planSearch Step.planTransfer Step.included Step.bytesOf Step.areaOf Step.planRecord Step.planPlace Step.planRead Step.sound Step.perform Step.execute Step.dispatch Step.plan Step.lengthStatus Step.settled Step.spread Step.xored Step.arriving Step.faulted Step.struck Step.transferred Step.carry Step.step Run.start Run.ticFirst Run.runFrom
+unfolding chain arguments recordOf pack fault setting pick opt part two bitOn same onPack trackIn naming run put store Ccw.ccwAt Ccw.chainsData Ccw.chainsCommand Ccw.suppresses Ccw.skips Ccw.isTic Ccw.formed Ccw.addressOf Ccw.next Ccw.fetchIn Ccw.fetch Ccw.target Ccw.landed Ccw.follow Ccw.resolve Ccw.argumentsAt Ccw.argumentsBase Ccw.argumentInside Ccw.argument Ccw.storageInside Walk.behindPlace Walk.placeUnder Walk.readable Walk.chained Walk.walk Walk.incorrectLength Drive.initial Drive.atIndex Drive.movedPast Drive.turn Drive.passesIndex Drive.pastZero Drive.taken Drive.addressBytes Drive.identifier Drive.countArea Drive.sameBytes Command.codes Command.lookUp Command.commandOf cswAt Step.onward Step.done Step.counted Step.planSeek Step.protects Step.sought Step.passesNow Step.examine Step.planSearch Step.planTransfer Step.included Step.bytesOf Step.areaOf Step.planRecord Step.planPlace Step.planRead Step.sound Step.perform Step.execute Step.dispatch Step.plan Step.lengthStatus Step.settled Step.spread Step.xored Step.arriving Step.faulted Step.byFault Step.transferred Step.carry Step.step Run.start Run.ticFirst Run.runFrom
 cut-at-the-first-read = refl
 
 faultless-end : Run.runFrom [] setting 4096 (Chain 0) (replicate 16 0)
@@ -70,5 +71,5 @@ faultless-end : Run.runFrom [] setting 4096 (Chain 0) (replicate 16 0)
       mask = Unset;
       storage = 0xc1 ∷ 0xc2 ∷ 0xc3 ∷ 0xc4 ∷ 0xd1 ∷ 0xd2 ∷ 0xd3 ∷ 0xd4 ∷ replicate 8 0;
     })
-unfolding chain arguments recordOf pack setting pick opt part two bitOn same onPack trackIn naming run put store Ccw.ccwAt Ccw.chainsData Ccw.chainsCommand Ccw.suppresses Ccw.skips Ccw.isTic Ccw.formed Ccw.addressOf Ccw.next Ccw.fetchIn Ccw.fetch Ccw.target Ccw.landed Ccw.follow Ccw.resolve Ccw.argumentsAt Ccw.argumentsBase Ccw.argumentInside Ccw.argument Ccw.storageInside Walk.behindPlace Walk.placeUnder Walk.readable Walk.chained Walk.walk Walk.incorrectLength Drive.initial Drive.atIndex Drive.behind Drive.turn Drive.passesIndex Drive.pastZero Drive.taken Drive.addressBytes Drive.identifier Drive.countArea Drive.sameBytes Command.codes Command.lookUp Command.commandOf Step.cswAt Step.noSense Step.onward Step.done Step.counted Step.planSeek Step.protects Step.sought Step.passesNow Step.examine Step.planSearch Step.planTransfer Step.included Step.bytesOf Step.areaOf Step.planRecord Step.planPlace Step.planRead Step.sound Step.perform Step.execute Step.dispatch Step.plan Step.lengthStatus Step.settled Step.struck Step.transferred Step.carry Step.step Run.start Run.ticFirst Run.runFrom
+unfolding chain arguments recordOf pack setting pick opt part two bitOn same onPack trackIn naming run put store Ccw.ccwAt Ccw.chainsData Ccw.chainsCommand Ccw.suppresses Ccw.skips Ccw.isTic Ccw.formed Ccw.addressOf Ccw.next Ccw.fetchIn Ccw.fetch Ccw.target Ccw.landed Ccw.follow Ccw.resolve Ccw.argumentsAt Ccw.argumentsBase Ccw.argumentInside Ccw.argument Ccw.storageInside Walk.behindPlace Walk.placeUnder Walk.readable Walk.chained Walk.walk Walk.incorrectLength Drive.initial Drive.atIndex Drive.movedPast Drive.turn Drive.passesIndex Drive.pastZero Drive.taken Drive.addressBytes Drive.identifier Drive.countArea Drive.sameBytes Command.codes Command.lookUp Command.commandOf cswAt Step.noSense Step.onward Step.done Step.counted Step.planSeek Step.protects Step.sought Step.passesNow Step.examine Step.planSearch Step.planTransfer Step.included Step.bytesOf Step.areaOf Step.planRecord Step.planPlace Step.planRead Step.sound Step.perform Step.execute Step.dispatch Step.plan Step.lengthStatus Step.settled Step.byFault Step.transferred Step.carry Step.step Run.start Run.ticFirst Run.runFrom
 faultless-end = refl

@@ -11,8 +11,8 @@ use mathlib.Core.List.{List}
 use lib.ListN.{length}
 use Rattle.base.proofs.Choice.{choose, found}
 use Rattle.faults.specs.Faults.{Fault}
-use Rattle.machine.specs.Machine.{goes, ends, cuts, run}
-use Rattle.machine.proofs.Run.{run-goes, run-ends, run-cuts}
+use Rattle.abstract_machine.specs.Machine.{goes, ends, cuts, run}
+use Rattle.abstract_machine.proofs.Run.{run-goes, run-ends, run-cuts}
 use Rattle.channel.specs.declared.Ccw.{Ccw}
 use Rattle.channel.specs.declared.Location.{Location}
 use Rattle.channel.specs.declared.Fetched.{Fetched}

@@ -26,13 +26,13 @@ use Rattle.base.specs.Bytes.{two}
 use Rattle.base.proofs.Choice.{both, both-if, either, either-if, and-right}
 use Rattle.pack.specs.Pack.{Record, Track, trackIn}
 use Rattle.faults.specs.Faults.{Fault}
-use Rattle.machine.specs.Machine.{goes, ends, cuts}
+use Rattle.abstract_machine.specs.Machine.{goes, ends, cuts}
 use Rattle.channel.specs.declared.Ccw.{Ccw}
 use Rattle.channel.specs.declared.Location.{Location}
 use Rattle.channel.specs.declared.Fetched.{Fetched}
 use Rattle.channel.specs.declared.Fetched.the-variants.{Got, Broken}
 use Rattle.channel.specs.Ccw.{isTic, next, fetch, resolve}
-use Rattle.channel.specs.Walk.{Walk, walked, stopped, walk, readable}
+use Rattle.channel.specs.Walk.{Walk, walked, checked, walk, readable}
 use Rattle.channel.proofs.InChain.{InChain, WalkIn, next-in, resolve-in, walk-in}
 use Rattle.channel.proofs.Walks.{Short, walk-places, resolve-got}
 use Rattle.drive.specs.declared.Read.{Read}
@@ -40,7 +40,7 @@ use Rattle.drive.specs.declared.Command.{Command}
 use Rattle.drive.specs.declared.Command.the-variants.{NoOperation, Seek, SetMask, SetSector, SearchId, ReadHome, ReadRecord, Unlisted}
 use Rattle.drive.specs.declared.FileMask.{FileMask}
 use Rattle.drive.specs.declared.FileMask.the-variants.{Unset, Set}
-use Rattle.drive.specs.Drive.{Drive, atIndex, behind, taken, addressBytes, identifier, countArea, noRecord}
+use Rattle.drive.specs.Drive.{Drive, atIndex, movedPast, taken, addressBytes, identifier, countArea, noRecord}
 use Rattle.drive.specs.Command.{commandOf}
 use Rattle.drive.specs.Step as Step
 use Rattle.drive.specs.Step.{State, Cut, End, Answer, DataArea, nothing, empty, dataOf, Transfer, Plan, answer, moves, Setting}
@@ -88,7 +88,7 @@ pub record Taken (w : Setting) (s : State) (c : Ccw) (x : Record) (bytes : List 
   pub below : place < length (track .records)
   pub record-is : getD (track .records) place noRecord ≡ x
   pub bytes-are : bytes ≡ Step.bytesOf kind x
-  pub after-is : after ≡ behind (s .drive) place false 0
+  pub after-is : after ≡ movedPast (s .drive) place false 0
   pub body-some : 0 < length (x .body)
   pub body-in : length (x .body) ≤ length bytes
   pub bytes-few : length bytes ≤ 8 + length (x .key) + length (x .body)
@@ -171,7 +171,7 @@ module _ (w : Setting) (s : State) (l : Location) (c : Ccw) (got : resolve (w .l
   sector-from n = both P _ (on _ (λ g. g)) (no Step.rejected)
 
   search-from : (g : List ℕ) → P (Step.planSearch l c d st (w .pack) g)
-  unfolding Step.planSearch Step.examine Step.done behind
+  unfolding Step.planSearch Step.examine Step.done movedPast
   search-from g =
       either P _ (no Step.notFound) (λ t. both P _ (no Step.notFound)
       (both P _ (onward-from (next (next l)) 0 _ (λ h. next-in _ (next-in l (here h))) (λ m. m)) (onward-from (next l) 0 _ (λ h. next-in l (here h)) (λ m. m))))
@@ -192,7 +192,7 @@ module _ (w : Setting) (s : State) (l : Location) (c : Ccw) (got : resolve (w .l
       -- the record at the place that a read takes
       taken-from : (place : ℕ) → place ≡ taken (k .just) d (length (t .records)) → place < length (t .records)
           → (x : Record) → Step.areaOf k (getD (t .records) place noRecord) ≡ dataOf x
-          → Taken w s c x (Step.bytesOf k (getD (t .records) place noRecord)) (behind d place (not (k .datas)) 0)
+          → Taken w s c x (Step.bytesOf k (getD (t .records) place noRecord)) (movedPast d place (not (k .datas)) 0)
       taken-from place e b x h =
           let v = areaOf-data k (getD (t .records) place noRecord) x h in
           rw (← (v .2)) (record {
@@ -206,14 +206,14 @@ module _ (w : Setting) (s : State) (l : Location) (c : Ccw) (got : resolve (w .l
             below = b;
             record-is = refl;
             bytes-are = refl;
-            after-is = ap (λ y. behind d place (not y) 0) (v .0);
+            after-is = ap (λ y. movedPast d place (not y) 0) (v .0);
             body-some = v .1;
             body-in = bytesOf-body k _ (v .0);
             bytes-few = bytesOf-few k _;
           })
 
       place-from : P (Step.planPlace l c d st (w .lent) k (t .records) (taken (k .just) d (length (t .records))))
-      unfolding Step.planPlace Step.planRecord behind
+      unfolding Step.planPlace Step.planRecord movedPast
       place-from = both-if P _ (λ e. transfer-from _ _ _ refl (taken-from _ refl (ltb-true _ _ e))) (λ e. no Step.notFound)
 
     read-from : (k : Read) → commandOf (c .command) ≡ ReadRecord k → P (Step.planRead l c d st (w .pack) (w .lent) k)
@@ -264,33 +264,33 @@ places-few w s t f = rw (f .walk-is) (walk-places (w .lent) _ _ (t .first) _ _ _
 module _ (s : State) (bs : List ℕ) (d : Drive) (st : List ℕ) where
   settled-from : (k : Walk) → (InChain (s .at) → WalkIn k) → (legal (s .drive .mask) → legal (d .mask)) → AnswerFrom s (Step.settled bs d st k)
   unfolding Step.settled Step.programCheck Step.onward
-  settled-from (stopped ps l) h g = ends-from
+  settled-from (checked ps l) h g = ends-from
   settled-from (walked ps l c left over) h g = both (AnswerFrom s) _ ends-from (both (AnswerFrom s) _ (goes-from (λ i. next-in l (h i)) g) ends-from)
 
   excepted-from : (k : Walk) → AnswerFrom s (Step.excepted bs d st k)
   unfolding Step.excepted Step.programCheck
-  excepted-from (stopped ps l) = ends-from
+  excepted-from (checked ps l) = ends-from
   excepted-from (walked ps l c left over) = ends-from
 
   faulted-from : (first : Location) (x : Record) (f : Fault) (k : Walk) → AnswerFrom s (Step.faulted first x f bs d st k)
   unfolding Step.faulted Step.programCheck
-  faulted-from first x f (stopped ps l) = ends-from
+  faulted-from first x f (checked ps l) = ends-from
   faulted-from first x f (walked ps l c left over) = cuts-from
 
 module _ (fs : List Fault) (w : Setting) (s : State) where
   clean : (t : Transfer) → From w s t → AnswerFrom s (Step.settled (t .bytes) (t .after) (s .storage) (t .walk))
   clean t f = settled-from s _ _ _ (t .walk) (ends-in w s t f) (λ g. rw (f .mask-is) g)
 
-  struck-from : (t : Transfer) (x : Record) (o : Option Fault) → From w s t → AnswerFrom s (Step.struck t x (s .storage) o)
-  unfolding Step.struck
-  struck-from t x none f = clean t f
-  struck-from t x (some y) f = faulted-from s _ _ _ (t .first) x y (t .walk)
+  by-fault-from : (t : Transfer) (x : Record) (o : Option Fault) → From w s t → AnswerFrom s (Step.byFault t x (s .storage) o)
+  unfolding Step.byFault
+  by-fault-from t x none f = clean t f
+  by-fault-from t x (some y) f = faulted-from s _ _ _ (t .first) x y (t .walk)
 
   transferred-from : (t : Transfer) (a : DataArea) → From w s t → AnswerFrom s (Step.transferred fs t (s .storage) a)
   unfolding Step.transferred
   transferred-from t nothing f = clean t f
   transferred-from t empty f = excepted-from s _ _ _ (t .walk)
-  transferred-from t (dataOf x) f = struck-from t x _ f
+  transferred-from t (dataOf x) f = by-fault-from t x _ f
 
   carry-from : (a : Plan) → PlanFrom w s a → AnswerFrom s (Step.carry fs (s .storage) a)
   unfolding Step.carry

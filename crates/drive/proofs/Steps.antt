@@ -7,33 +7,21 @@
 --   unnamed            a command that takes no named data area comes to the same with and without faults
 --   step-settled       without faults a read of a data area is settled
 --   step-faulted       a read of a named one is faulted
---   cswOf              the CSW that stands behind a command
---   unitChecked        a CSW with unit check
 --   cutOf              the cut of a faulted read
---   step-csw           the CSW behind a read without faults whose walk ends
---   step-cut           with the fault it is cut, and the cut's CSW is that one with unit check
---   step-stopped       a walk that a program check stops ends alike with and without the fault, but for storage's bytes
 use Prim.Native.Nat.{ℕ}
-use mathlib.Core.Path.{_≡_, refl, ap, _∙_}
+use mathlib.Core.Path.{_≡_, refl}
 use mathlib.Core.Bool.{Bool, true, false}
 use mathlib.Core.Option.{Option, none, some}
 use mathlib.Core.List.{List, []}
 use lib.ListN.{length}
 use native.Mathlib.Omega.{arith}
-use Rattle.base.specs.Choice.{pick, opt}
+use Rattle.base.specs.Choice.{opt}
 use Rattle.pack.specs.Pack.{Record}
 use Rattle.faults.specs.Faults.{Fault, naming}
-use Rattle.machine.specs.Machine.{goes, ends, cuts}
-use Rattle.channel.specs.declared.Ccw.{Ccw}
-use Rattle.channel.specs.declared.Location.{Location}
 use Rattle.channel.specs.declared.Csw.{Csw}
-use Rattle.channel.specs.Ccw.{chainsCommand}
 use Rattle.channel.specs.Store.{store}
-use Rattle.channel.specs.Walk.{walked, stopped, incorrectLength}
-use Rattle.drive.specs.Drive.{Drive}
-use Rattle.drive.specs.Run.{limitCsw}
 use Rattle.drive.specs.Step as Step
-use Rattle.drive.specs.Step.{State, Cut, Answer, DataArea, nothing, empty, dataOf, Transfer, Plan, answer, moves, Setting, Area}
+use Rattle.drive.specs.Step.{State, Cut, DataArea, nothing, empty, dataOf, Transfer, Plan, answer, moves, Setting, Area}
 
 -- ---- whether the list is asked and answers
 
@@ -77,7 +65,7 @@ unfolding Step.areaIn Step.areaTaken Step.isNamed
 named-area fs a n = rw (n .is-moves, n .is-data, n .is-named)
 
 carry-unnamed : (fs : List Fault) (st : List ℕ) (a : Plan) → faultedIn fs a ≡ false → Step.carry fs st a ≡ Step.carry [] st a
-unfolding faultedIn opt naming Step.areaIn Step.areaTaken Step.isNamed Step.carry Step.transferred Step.struck
+unfolding faultedIn opt naming Step.areaIn Step.areaTaken Step.isNamed Step.carry Step.transferred Step.byFault
 carry-unnamed fs st (answer b) h = refl
 carry-unnamed fs st (moves t) h = by (t .area) refl
   where
@@ -98,35 +86,13 @@ unnamed fs w s h = carry-unnamed fs (s .storage) (Step.plan w s) h
 
 module _ (w : Setting) (s : State) (t : Transfer) (x : Record) (p : Step.plan w s ≡ moves t) (q : t .area ≡ dataOf x) where
   pub step-settled : Step.step [] w s ≡ Step.settled (t .bytes) (t .after) (s .storage) (t .walk)
-  unfolding naming Step.step Step.carry Step.transferred Step.struck
+  unfolding naming Step.step Step.carry Step.transferred Step.byFault
   step-settled = rw (p, q)
 
   pub step-faulted : (fs : List Fault) (f : Fault) → naming fs (x .at) (x .r) ≡ some f
       → Step.step fs w s ≡ Step.faulted (t .first) x f (t .bytes) (t .after) (s .storage) (t .walk)
-  unfolding Step.step Step.carry Step.transferred Step.struck
+  unfolding Step.step Step.carry Step.transferred Step.byFault
   step-faulted fs f e = rw (p, q, e)
-
--- ---- its CSW
-
--- of a chain that goes on: the CSW that it would show if it went no further
-unfoldable pub cswOf : Answer → Csw
-cswOf (goes t) = limitCsw t
-cswOf (ends e) = e .csw
-cswOf (cuts k) = k .csw
-
-unfoldable pub unitChecked : Csw → Csw
-unitChecked v = record { address = v .address; unit = 0x0e; channel = v .channel; count = v .count }
-
-module _ (bs : List ℕ) (d : Drive) (st : List ℕ) (ps : List (Option ℕ)) (l : Location) (c : Ccw) (left : ℕ) (over : Bool) where
-  csw-settled : cswOf (Step.settled bs d st (walked ps l c left over)) ≡ Step.cswAt l 0x0c (Step.lengthStatus (incorrectLength c left over)) left
-  unfolding cswOf limitCsw Step.settled Step.onward Step.lengthStatus pick
-  csw-settled = by (incorrectLength c left over) refl (chainsCommand c) refl
-    where
-      by : (wrong : Bool) → incorrectLength c left over ≡ wrong → (chains : Bool) → chainsCommand c ≡ chains
-          → cswOf (Step.settled bs d st (walked ps l c left over)) ≡ Step.cswAt l 0x0c (Step.lengthStatus (incorrectLength c left over)) left
-      by true q chains r = rw q
-      by false q true r = rw (q, r)
-      by false q false r = rw (q, r)
 
 -- the cut of a faulted read: storage before it, the walk's places and whether bytes were left over, the CSW
 abbrev pub cutOf : Transfer → Record → Fault → List ℕ → List (Option ℕ) → Bool → Csw → Cut
@@ -143,20 +109,3 @@ cutOf t x f st ps over v =
       csw = v;
       storage = store ps (Step.arriving (t .bytes) f) st;
     }
-
-module _ (w : Setting) (s : State) (t : Transfer) (x : Record) (p : Step.plan w s ≡ moves t) (q : t .area ≡ dataOf x) where
-  pub step-csw : (ps : List (Option ℕ)) (l : Location) (c : Ccw) (left : ℕ) (over : Bool) → t .walk ≡ walked ps l c left over
-      → cswOf (Step.step [] w s) ≡ Step.cswAt l 0x0c (Step.lengthStatus (incorrectLength c left over)) left
-  step-csw ps l c left over h = ap cswOf (step-settled w s t x p q) ∙ rw h (csw-settled (t .bytes) (t .after) (s .storage) ps l c left over)
-
-  module _ (fs : List Fault) (f : Fault) (e : naming fs (x .at) (x .r) ≡ some f) where
-    pub step-cut : (ps : List (Option ℕ)) (l : Location) (c : Ccw) (left : ℕ) (over : Bool) → t .walk ≡ walked ps l c left over
-        → Step.step fs w s ≡ cuts (cutOf t x f (s .storage) ps over (unitChecked (cswOf (Step.step [] w s))))
-    unfolding unitChecked Step.faulted Step.cswAt
-    step-cut ps l c left over h = step-faulted w s t x p q fs f e ∙ rw (h, step-csw ps l c left over h) refl
-
-    pub step-stopped : (ps : List (Option ℕ)) (l : Location) → t .walk ≡ stopped ps l
-        → (Step.step fs w s ≡ Step.programCheck l (t .after) (store ps (Step.arriving (t .bytes) f) (s .storage)))
-        × (Step.step [] w s ≡ Step.programCheck l (t .after) (store ps (t .bytes) (s .storage)))
-    unfolding Step.faulted Step.settled
-    step-stopped ps l h = (step-faulted w s t x p q fs f e ∙ rw h refl, step-settled w s t x p q ∙ rw h refl)

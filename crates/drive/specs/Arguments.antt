@@ -23,12 +23,12 @@ abbrev pub Sounds : ℕ → ℕ → Location → ℕ → Ccw → Command → Boo
 Sounds n m l size c k b = (p : Lent) → length (p .arguments) ≡ n → length (p .restartArguments) ≡ m → b ≡ sound p l size c k
 
 -- the two areas of arguments, with no CCWs
-abbrev pub argumentsOf : List ℕ → List ℕ → Lent
-argumentsOf s r = record { chain = []; arguments = s; program = []; restartArguments = r }
+abbrev pub onlyArguments : List ℕ → List ℕ → Lent
+onlyArguments s r = record { chain = []; arguments = s; program = []; restartArguments = r }
 
 -- A CCW's argument is wholly in its area.
 abbrev pub ArgumentIn : List ℕ → List ℕ → Location → Ccw → Type 0
-ArgumentIn s r l c = argumentInside (argumentsOf s r) l c ≡ true
+ArgumentIn s r l c = argumentInside (onlyArguments s r) l c ≡ true
 
 -- a byte of a CCW's argument
 abbrev pub ArgumentByte : List ℕ → List ℕ → Location → Ccw → ℕ → ℕ → Type 0

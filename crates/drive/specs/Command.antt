@@ -4,10 +4,10 @@ use mathlib.Core.Bool.{Bool, true, false}
 use mathlib.Core.List.{List, [], _∷_}
 use lib.Dec.{eqb}
 use Rattle.base.specs.Choice.{pick}
-use Rattle.drive.specs.declared.Read.{Read}
 use Rattle.drive.specs.declared.Command.{Command}
 use Rattle.drive.specs.declared.Command.the-variants.{NoOperation, Seek, SetMask, SetSector, SearchId, ReadHome, ReadRecord, Unlisted}
 
+-- a read of a record: whether it takes the one just passed, and whether it moves count area, key and data
 abbrev pub reads : Bool → Bool → Bool → Bool → Command
 reads just counts keys datas = ReadRecord (record { just = just; counts = counts; keys = keys; datas = datas })
 
@@ -27,9 +27,11 @@ codes =
     ∷ (0x1a, ReadHome)
     ∷ []
 
+-- the command that a list has for a code
 unfoldable pub lookUp : List (ℕ × Command) → ℕ → Command
 lookUp [] code = Unlisted
 lookUp (x ∷ xs) code = pick (eqb (x .0) code) (x .1) (lookUp xs code)
 
+-- the command of a code; "Others, .. : command reject" are Unlisted
 unfoldable pub commandOf : ℕ → Command
 commandOf code = lookUp codes code

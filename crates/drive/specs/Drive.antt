@@ -32,8 +32,8 @@ unfoldable pub atIndex : Address → FileMask → Drive
 atIndex a m = record { at = a; next = 0; passed = false; passes = 0; mask = m }
 
 -- behind the count area at a place (`passed`), or behind the whole record
-unfoldable pub behind : Drive → ℕ → Bool → ℕ → Drive
-behind d place passed passes = record { at = d .at; next = place + 1; passed = passed; passes = passes; mask = d .mask }
+unfoldable pub movedPast : Drive → ℕ → Bool → ℕ → Drive
+movedPast d place passed passes = record { at = d .at; next = place + 1; passed = passed; passes = passes; mask = d .mask }
 
 -- ---- around the track
 
@@ -72,9 +72,11 @@ countArea x = identifier x ++ length (x .key) ∷ two (length (x .body))
 unfoldable pub homeAddress : Track → List ℕ
 homeAddress t = 0 ∷ addressBytes (t .at)
 
+-- what a lookup behind the last record gives; on the tracks of a well formed image there is no such lookup
 abbrev pub noRecord : Record
 noRecord = record { at = record { cylinder = 0; head = 0 }; r = 0; key = []; body = [] }
 
+-- as many bytes, and each the same
 unfoldable pub sameBytes : List ℕ → List ℕ → Bool
 sameBytes [] [] = true
 sameBytes [] (y ∷ ys) = false

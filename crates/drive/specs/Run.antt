@@ -4,12 +4,13 @@ use mathlib.Core.Bool.{Bool, false}
 use mathlib.Core.List.{List}
 use Rattle.base.specs.Choice.{pick, opt}
 use Rattle.faults.specs.Faults.{Fault}
-use Rattle.machine.specs.Machine.{Result, ended, run}
+use Rattle.abstract_machine.specs.Machine.{Result, ended, run}
 use Rattle.channel.specs.declared.Location.{Location}
 use Rattle.channel.specs.declared.Csw.{Csw}
 use Rattle.channel.specs.Ccw.{Lent, isTic, fetch}
+use Rattle.channel.specs.Csw.{cswAt, endStatus, programCheckStatus}
 use Rattle.drive.specs.Drive.{initial}
-use Rattle.drive.specs.Step.{cswAt, State, End, Cut, noSense, Setting, step}
+use Rattle.drive.specs.Step.{State, End, Cut, noSense, Setting, step}
 
 -- "A run starts at cylinder 0, head 0, at the index, with no mask."
 unfoldable pub start : Location → List ℕ → State
@@ -23,9 +24,9 @@ ticFirst p l = opt (fetch p l) false isTic
 unfoldable pub runFrom : List Fault → Setting → ℕ → Location → List ℕ → Result State End Cut
 runFrom fs w n l st =
     pick (ticFirst (w .lent) l)
-    (ended (record { csw = cswAt l 0 0x20 0; sense = noSense; mask = initial .mask; storage = st }))
+    (ended (record { csw = cswAt l 0 programCheckStatus 0; sense = noSense; mask = initial .mask; storage = st }))
     (run (step fs w) n (start l st))
 
 -- "answers limit with its last CSW"
 unfoldable pub limitCsw : State → Csw
-limitCsw s = cswAt (s .last) 0x0c 0 (s .left)
+limitCsw s = cswAt (s .last) endStatus 0 (s .left)

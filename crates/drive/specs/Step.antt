@@ -1,12 +1,12 @@
 -- One command of a run (document 01, "Channel" and "Drive").
 -- A command is first planned, with no knowledge of the fault list; only a plan that takes a data area asks the list.
 -- So a faultless run is the same definition with an empty list.
-use Prim.Native.Nat.{ℕ, suc, _+_, _-_}
+use Prim.Native.Nat.{ℕ, _+_, _-_}
 use mathlib.Core.Bool.{Bool, true, false, _&&_, _||_, not}
 use mathlib.Core.Option.{Option, none, some}
 use mathlib.Core.List.{List, [], _∷_, _++_}
 use lib.Bits.{bitXor}
-use lib.Dec.{eqb, ltb, leb}
+use lib.Dec.{eqb, ltb}
 use lib.ListN.{length, getD, take, replicate}
 use Rattle.base.specs.Choice.{pick, opt}
 use Rattle.base.specs.Bytes.{be16At, two, three}
@@ -15,16 +15,17 @@ use Rattle.address.specs.declared.Address.{Address}
 use Rattle.address.specs.Order.{onPack}
 use Rattle.pack.specs.Pack.{Record, Track, trackIn}
 use Rattle.faults.specs.Faults.{Fault, naming}
-use Rattle.machine.specs.Machine.{Outcome, goes, ends, cuts}
+use Rattle.abstract_machine.specs.Machine.{Stepped, goes, ends, cuts}
 use Rattle.channel.specs.declared.Ccw.{Ccw}
 use Rattle.channel.specs.declared.Location.{Location}
 use Rattle.channel.specs.declared.Fetched.{Fetched}
 use Rattle.channel.specs.declared.Fetched.the-variants.{Got, Broken}
 use Rattle.channel.specs.declared.Csw.{Csw}
-use Rattle.channel.specs.Ccw.{Lent, chainsData, chainsCommand, formed, addressOf, next, resolve, argumentInside, argument}
+use Rattle.channel.specs.Ccw.{Lent, chainsData, chainsCommand, formed, next, resolve, argumentInside, argument}
+use Rattle.channel.specs.Csw.{cswAt, endStatus, unitCheck, unitException, incorrectLengthStatus, programCheckStatus}
 use Rattle.channel.specs.Store.{store}
-use Rattle.channel.specs.Walk.{Walk, walked, stopped, walk, readable, incorrectLength}
-use Rattle.drive.specs.Drive.{Drive, atIndex, behind, turn, passesIndex, taken, addressBytes, identifier, countArea, homeAddress, noRecord, sameBytes}
+use Rattle.channel.specs.Walk.{Walk, walked, checked, walk, readable, incorrectLength}
+use Rattle.drive.specs.Drive.{Drive, atIndex, movedPast, turn, passesIndex, taken, addressBytes, identifier, countArea, homeAddress, noRecord, sameBytes}
 use Rattle.drive.specs.declared.Read.{Read}
 use Rattle.drive.specs.declared.Command.{Command}
 use Rattle.drive.specs.declared.Command.the-variants.{NoOperation, Seek, SetMask, SetSector, SearchId, ReadHome, ReadRecord, Unlisted}
@@ -33,10 +34,6 @@ use Rattle.drive.specs.declared.FileMask.the-variants.{Unset, Set}
 use Rattle.drive.specs.Command.{commandOf}
 
 -- ---- what a command comes to
-
--- "CSW: 00, last CCW's address plus 8 (3), unit status .., channel status .., count left 2"
-unfoldable pub cswAt : Location → ℕ → ℕ → ℕ → Csw
-cswAt l unit channel count = record { address = addressOf l + 8; unit = unit; channel = channel; count = count }
 
 -- Between two commands: the place of the next CCW, the CCW that was fetched last with its count left, drive and storage.
 pub record State : Type 0 where
@@ -67,15 +64,17 @@ pub record Cut : Type 0 where
   pub csw : Csw
   pub storage : List ℕ
 
+-- what one command comes to: the next command's state, the chain's end or a cut
 abbrev pub Answer : Type 0
-Answer = Outcome State End Cut
+Answer = Stepped State End Cut
 
+-- 24 sense bytes in which no bit is on
 unfoldable pub noSense : List ℕ
 noSense = replicate 24 0
 
 -- "A program check is found before the drive sees the command, or at a data-chained CCW ..; unit status and count left are then 0."
 unfoldable pub programCheck : Location → Drive → List ℕ → Answer
-programCheck l d st = ends (record { csw = cswAt l 0 0x20 0; sense = noSense; mask = d .mask; storage = st })
+programCheck l d st = ends (record { csw = cswAt l 0 programCheckStatus 0; sense = noSense; mask = d .mask; storage = st })
 
 -- The unit checks that are no data check.
 pub data Check : Type 0 where
@@ -89,14 +88,14 @@ checkSense protected = 0 ∷ 0x04 ∷ replicate 22 0
 
 -- "commands rejected, protected or not found move nothing": the count left is the CCW's own
 unfoldable pub refusal : Check → Location → Ccw → Drive → List ℕ → Answer
-refusal k l c d st = ends (record { csw = cswAt l 0x0e 0 (c .count); sense = checkSense k; mask = d .mask; storage = st })
+refusal k l c d st = ends (record { csw = cswAt l (endStatus + unitCheck) 0 (c .count); sense = checkSense k; mask = d .mask; storage = st })
 
 -- The command whose last CCW is c at l is done: on to a place, or the end where c does not chain.
 -- "Otherwise unit status is 0C"
 unfoldable pub onward : Location → Location → Ccw → ℕ → Drive → List ℕ → Answer
 onward l to c left d st =
     pick (chainsCommand c) (goes (record { at = to; last = l; left = left; drive = d; storage = st }))
-    (ends (record { csw = cswAt l 0x0c 0 left; sense = noSense; mask = d .mask; storage = st }))
+    (ends (record { csw = cswAt l endStatus 0 left; sense = noSense; mask = d .mask; storage = st }))
 
 -- ---- plans
 
@@ -117,6 +116,7 @@ pub record Transfer : Type 0 where
   pub after : Drive
   pub walk : Walk
 
+-- What a command comes to before the fault list is asked: its answer, or the read that it makes.
 pub data Plan : Type 0 where
   answer : Answer → Plan
   moves : Transfer → Plan
@@ -128,6 +128,7 @@ unfoldable pub protects : FileMask → Bool
 protects Unset = false
 protects (Set m) = bitOn 3 m || bitOn 4 m
 
+-- "a second mask" is rejected: whether one was set since the run began
 unfoldable pub isSet : FileMask → Bool
 isSet Unset = false
 isSet (Set m) = true
@@ -141,6 +142,7 @@ unfoldable pub sought : List ℕ → Address
 sought g = record { cylinder = be16At g 2; head = be16At g 4 }
 
 module _ (l : Location) (c : Ccw) (d : Drive) (st : List ℕ) where
+  -- a unit check that is no data check
   unfoldable pub refuse : Check → Plan
   refuse k = answer (refusal k l c d st)
 
@@ -182,7 +184,7 @@ module _ (l : Location) (c : Ccw) (d : Drive) (st : List ℕ) where
   unfoldable pub examine : List ℕ → List Record → ℕ → ℕ → Plan
   examine g xs place passes =
       pick (ltb 1 passes) (refuse notFound)
-      (pick (sameBytes g (identifier (getD xs place noRecord))) (done (next (next l)) (behind d place true 0)) (done (next l) (behind d place true passes)))
+      (pick (sameBytes g (identifier (getD xs place noRecord))) (done (next (next l)) (movedPast d place true 0)) (done (next l) (movedPast d place true passes)))
 
   -- "A search or read on a track not in the image .. : no record found."
   unfoldable pub planSearch : List Track → List ℕ → Plan
@@ -192,6 +194,7 @@ module _ (l : Location) (c : Ccw) (d : Drive) (st : List ℕ) where
 
   -- ---- reads
 
+  -- a read of the bytes bs with the data area a, and the drive e behind it; its walk begins with the count and the address of c
   unfoldable pub planTransfer : Lent → List ℕ → DataArea → Drive → Plan
   planTransfer p bs a e = moves (record { first = l; bytes = bs; area = a; after = e; walk = walk p (length st) (length bs) l c (c .count) (c .address) })
 
@@ -199,11 +202,12 @@ module _ (l : Location) (c : Ccw) (d : Drive) (st : List ℕ) where
   unfoldable pub planHome : List Track → Lent → Plan
   planHome pack p = opt (trackIn pack (d .at)) (refuse notFound) (λ t. planTransfer p (homeAddress t) nothing (atIndex (d .at) (d .mask)))
 
--- the bytes that a read moves
+-- bytes, where a read moves them
 unfoldable pub included : Bool → List ℕ → List ℕ
 included true s = s
 included false s = []
 
+-- "06 data, 0E key and data, 12 count, 1E count, key and data"
 unfoldable pub bytesOf : Read → Record → List ℕ
 bytesOf k x = included (k .counts) (countArea x) ++ included (k .keys) (x .key) ++ included (k .datas) (x .body)
 
@@ -214,12 +218,13 @@ areaOf k x = pick (k .datas) (pick (eqb (length (x .body)) 0) empty (dataOf x)) 
 module _ (l : Location) (c : Ccw) (d : Drive) (st : List ℕ) where
   -- behind a 12 its record's count area was just passed
   unfoldable pub planRecord : Lent → Read → Record → ℕ → Plan
-  planRecord p k x place = planTransfer l c d st p (bytesOf k x) (areaOf k x) (behind d place (not (k .datas)) 0)
+  planRecord p k x place = planTransfer l c d st p (bytesOf k x) (areaOf k x) (movedPast d place (not (k .datas)) 0)
 
   -- "a read going round with R0 alone: no record found"
   unfoldable pub planPlace : Lent → Read → List Record → ℕ → Plan
   planPlace p k xs place = pick (ltb place (length xs)) (planRecord p k (getD xs place noRecord) place) (refuse l c d st notFound)
 
+  -- "A search or read on a track not in the image .. : no record found."
   unfoldable pub planRead : List Track → Lent → Read → Plan
   planRead pack p k =
       opt (trackIn pack (d .at)) (refuse l c d st notFound) (λ t. planPlace p k (t .records) (taken (k .just) d (length (t .records))))
@@ -244,6 +249,7 @@ pub record Setting : Type 0 where
   pub pack : List Track
   pub lent : Lent
 
+-- a CCW without program check, by its command: "07 seek (count 6), 1F mask (1), 23 sector (1: ..); 31 search ID equal (5)"
 unfoldable pub perform : Setting → Location → Ccw → Drive → List ℕ → Command → Plan
 perform w l c d st NoOperation = planNoOperation l c d st
 perform w l c d st Unlisted = refuse l c d st rejected
@@ -254,14 +260,17 @@ perform w l c d st SearchId = counted l c d st 5 (planSearch l c d st (w .pack) 
 perform w l c d st ReadHome = planHome l c d st (w .pack) (w .lent)
 perform w l c d st (ReadRecord k) = planRead l c d st (w .pack) (w .lent) k
 
+-- "A program check is found before the drive sees the command"
 unfoldable pub execute : Setting → Location → Ccw → Drive → List ℕ → Plan
 execute w l c d st =
     pick (sound (w .lent) l (length st) c (commandOf (c .command))) (perform w l c d st (commandOf (c .command))) (answer (programCheck l d st))
 
+-- the CCW that comes next, or a program check instead of it
 unfoldable pub dispatch : Setting → Drive → List ℕ → Fetched → Plan
 dispatch w d st (Broken l) = answer (programCheck l d st)
 dispatch w d st (Got l c) = execute w l c d st
 
+-- the plan of the CCW that comes next: at the state's place, or behind a TIC there
 unfoldable pub plan : Setting → State → Plan
 plan w s = dispatch w (s .drive) (s .storage) (resolve (w .lent) (s .last) (s .at))
 
@@ -269,21 +278,21 @@ plan w s = dispatch w (s .drive) (s .storage) (resolve (w .lent) (s .last) (s .a
 
 -- the channel status at a read's end
 unfoldable pub lengthStatus : Bool → ℕ
-lengthStatus wrong = pick wrong 0x40 0
+lengthStatus wrong = pick wrong incorrectLengthStatus 0
 
 -- "Incorrect length ends the chain."
 unfoldable pub settled : List ℕ → Drive → List ℕ → Walk → Answer
-settled bs d st (stopped ps l) = programCheck l d (store ps bs st)
+settled bs d st (checked ps l) = programCheck l d (store ps bs st)
 settled bs d st (walked ps l c left over) =
     pick (incorrectLength c left over)
-    (ends (record { csw = cswAt l 0x0c 0x40 left; sense = noSense; mask = d .mask; storage = store ps bs st }))
+    (ends (record { csw = cswAt l endStatus incorrectLengthStatus left; sense = noSense; mask = d .mask; storage = store ps bs st }))
     (onward l (next l) c left d (store ps bs st))
 
 -- "unit exception, chain ends"
 unfoldable pub excepted : List ℕ → Drive → List ℕ → Walk → Answer
-excepted bs d st (stopped ps l) = programCheck l d (store ps bs st)
+excepted bs d st (checked ps l) = programCheck l d (store ps bs st)
 excepted bs d st (walked ps l c left over) =
-    ends (record { csw = cswAt l 0x0d (lengthStatus (incorrectLength c left over)) left; sense = noSense; mask = d .mask; storage = store ps bs st })
+    ends (record { csw = cswAt l (endStatus + unitException) (lengthStatus (incorrectLength c left over)) left; sense = noSense; mask = d .mask; storage = store ps bs st })
 
 -- n bytes, the pattern from place k on and 0 elsewhere
 unfoldable pub spread : ℕ → ℕ → List ℕ → List ℕ
@@ -302,7 +311,7 @@ arriving bs f = xored bs (spread (length bs) (length bs - f .displacement) (f .p
 
 -- "and ends with unit check", "at a data-chained CCW, where it ends the read instead of any unit check"
 unfoldable pub faulted : Location → Record → Fault → List ℕ → Drive → List ℕ → Walk → Answer
-faulted first x f bs d st (stopped ps l) = programCheck l d (store ps (arriving bs f) st)
+faulted first x f bs d st (checked ps l) = programCheck l d (store ps (arriving bs f) st)
 faulted first x f bs d st (walked ps l c left over) =
     cuts (record {
       at = x .at;
@@ -313,23 +322,27 @@ faulted first x f bs d st (walked ps l c left over) =
       over = over;
       first = first;
       mask = d .mask;
-      csw = cswAt l 0x0e (lengthStatus (incorrectLength c left over)) left;
+      csw = cswAt l (endStatus + unitCheck) (lengthStatus (incorrectLength c left over)) left;
       storage = store ps (arriving bs f) st;
     })
 
-unfoldable pub struck : Transfer → Record → List ℕ → Option Fault → Answer
-struck t x st none = settled (t .bytes) (t .after) st (t .walk)
-struck t x st (some f) = faulted (t .first) x f (t .bytes) (t .after) st (t .walk)
+-- a read that takes the data of the record x, with the fault that names x if there is one
+unfoldable pub byFault : Transfer → Record → List ℕ → Option Fault → Answer
+byFault t x st none = settled (t .bytes) (t .after) st (t .walk)
+byFault t x st (some f) = faulted (t .first) x f (t .bytes) (t .after) st (t .walk)
 
+-- a read by its data area, under a fault list
 unfoldable pub transferred : List Fault → Transfer → List ℕ → DataArea → Answer
 transferred fs t st nothing = settled (t .bytes) (t .after) st (t .walk)
 transferred fs t st empty = excepted (t .bytes) (t .after) st (t .walk)
-transferred fs t st (dataOf x) = struck t x st (naming fs (x .at) (x .r))
+transferred fs t st (dataOf x) = byFault t x st (naming fs (x .at) (x .r))
 
+-- a plan under a fault list
 unfoldable pub carry : List Fault → List ℕ → Plan → Answer
 carry fs st (answer a) = a
 carry fs st (moves t) = transferred fs t st (t .area)
 
+-- one command of a run, under a fault list
 unfoldable pub step : List Fault → Setting → State → Answer
 step fs w s = carry fs (s .storage) (plan w s)
 
@@ -341,15 +354,18 @@ pub record Area : Type 0 where
   pub r : ℕ
   pub faulted : Bool
 
+-- "a record that the list names": whether there is a fault that names it
 unfoldable pub isNamed : Option Fault → Bool
 isNamed none = false
 isNamed (some f) = true
 
+-- the data area of a read, if it takes one; one of length 0 is left out, as no fault can name its record
 unfoldable pub areaTaken : List Fault → DataArea → Option Area
 areaTaken fs nothing = none
 areaTaken fs empty = none
 areaTaken fs (dataOf x) = some (record { at = x .at; r = x .r; faulted = isNamed (naming fs (x .at) (x .r)) })
 
+-- the data area that a plan takes, "even if it stores no byte"
 unfoldable pub areaIn : List Fault → Plan → Option Area
 areaIn fs (answer a) = none
 areaIn fs (moves t) = areaTaken fs (t .area)

@@ -86,9 +86,9 @@ pub fn settable(m: u8) -> bool
 }
 
 // Whether a CCW's argument is wholly in its area, with arguments and restart arguments of these lengths.
-fn argument_inside(l: Location, c: Ccw, arguments: usize, restarts: usize) -> bool
+fn argument_inside(l: Location, c: Ccw, arguments: usize, restart_arguments: usize) -> bool
     requires { ⌜ InBytes c ⌝ }
-    ensures { λ r. ⌜ Insides arguments restarts l c r ⌝ }
+    ensures { λ r. ⌜ Insides arguments «restart_arguments» l c r ⌝ }
 {
     match l {
         Location::Chain(_) => {
@@ -98,20 +98,20 @@ fn argument_inside(l: Location, c: Ccw, arguments: usize, restarts: usize) -> bo
             if c.address < 0x2000 {
                 return false;
             }
-            return c.address - 0x2000 + c.count <= restarts;
+            return c.address - 0x2000 + c.count <= restart_arguments;
         }
     }
 }
 
 // Whether a control or search command with an argument makes no program check.
-fn argument_sound(l: Location, c: Ccw, arguments: usize, restarts: usize) -> bool
+fn argument_sound(l: Location, c: Ccw, arguments: usize, restart_arguments: usize) -> bool
     requires { ⌜ InBytes c ⌝ }
-    ensures { λ r. ⌜ Argues arguments restarts l c r ⌝ }
+    ensures { λ r. ⌜ Argues arguments «restart_arguments» l c r ⌝ }
 {
     if !c.formed() {
         return false;
     }
-    argument_inside(l, c, arguments, restarts)
+    argument_inside(l, c, arguments, restart_arguments)
 }
 
 // Whether a CCW that is command k makes no program check, with storage of `size` bytes.
@@ -120,34 +120,40 @@ pub fn sound(
     c: Ccw,
     k: Command,
     arguments: usize,
-    restarts: usize,
+    restart_arguments: usize,
     size: usize,
 ) -> bool
     requires { ⌜ InBytes c ⌝ }
-    ensures { λ r. ⌜ Sounds arguments restarts l size c k r ⌝ }
+    ensures { λ r. ⌜ Sounds arguments «restart_arguments» l size c k r ⌝ }
 {
     match k {
         Command::NoOperation => c.formed(),
         Command::Unlisted => c.formed(),
-        Command::Seek => argument_sound(l, c, arguments, restarts),
-        Command::SetMask => argument_sound(l, c, arguments, restarts),
-        Command::SetSector => argument_sound(l, c, arguments, restarts),
-        Command::SearchId => argument_sound(l, c, arguments, restarts),
+        Command::Seek => argument_sound(l, c, arguments, restart_arguments),
+        Command::SetMask => argument_sound(l, c, arguments, restart_arguments),
+        Command::SetSector => argument_sound(l, c, arguments, restart_arguments),
+        Command::SearchId => argument_sound(l, c, arguments, restart_arguments),
         Command::ReadHome => c.readable(size),
         Command::ReadRecord(_) => c.readable(size),
     }
 }
 
 // Byte k of a CCW's argument.
-pub fn argument_byte(arguments: &[u8], restarts: &[u8], l: Location, c: Ccw, k: usize) -> usize
-    requires { ⌜ ArgumentIn (now arguments) (now restarts) l c ⌝ }
+pub fn argument_byte(
+    arguments: &[u8],
+    restart_arguments: &[u8],
+    l: Location,
+    c: Ccw,
+    k: usize,
+) -> usize
+    requires { ⌜ ArgumentIn (now arguments) (now «restart_arguments») l c ⌝ }
     requires { ⌜ k < c .count ⌝ }
     requires { ⌜ InBytes c ⌝ }
     ensures { λ r. ⌜ r < 256 ⌝ }
-    ensures { λ r. ⌜ ArgumentByte (now (arguments .entry)) (now (restarts .entry)) l c k r ⌝ }
+    ensures { λ r. ⌜ ArgumentByte (now (arguments .entry)) (now («restart_arguments» .entry)) l c k r ⌝ }
 {
     match l {
         Location::Chain(_) => base::byte(arguments, c.address + k),
-        Location::Restart(_) => base::byte(restarts, c.address - 0x2000 + k),
+        Location::Restart(_) => base::byte(restart_arguments, c.address - 0x2000 + k),
     }
 }

@@ -3,264 +3,23 @@ use channel::Ccw;
 use channel::Fetched;
 use channel::Location;
 use command::Answer;
-use command::Check;
 use command::State;
 use drive::Command;
-use drive::Read;
-use faults::FaultAt;
-use faults::Listed;
-use pack::Place;
 use position::Drive;
-use position::Taken;
 ghost use mathlib.Core.Path.{_≡_};
-ghost use mathlib.Core.Bool.{true, _&&_};
-ghost use Prim.Native.Nat.{_≤_};
-ghost use lib.Dec.{eqb};
-ghost use lib.ListN.{length, take};
-ghost use Rattle.address.specs.Order.{lastCylinder};
-ghost use Rattle.image.specs.Image.{wellFormed};
-ghost use Rattle.faults.specs.FaultAt.{faultFrom};
-ghost use Rattle.pack.specs.Places.{recordFrom};
-ghost use Rattle.drive.specs.declared.Command.the-variants.{ReadRecord};
 ghost use Rattle.drive.specs.Command.{commandOf};
-ghost use Rattle.drive.specs.Step as Step;
 ghost use Rattle.position.specs.Standing.{driveOf, Standing};
-ghost use Rattle.command.specs.Answer.{Low, Kept, KeptWith, KeptAlways};
-ghost use Rattle.settle.specs.Settle.{PlaceLow};
-ghost use Rattle.execute.specs.Executes.{Begun, Steps, Executes, InArea, Unchecked, Performs, Ready, Lies, FaultTaken, FaultsInside, Ends, Carries, Struck, ReadsBytes, planOf, recordPlan, Homes};
-
-// ---- reads, once their bytes are known
-
-// A read without fault, with the drive behind it. It has one caller, so that the compiler builds it in there.
-fn plain(
-    chain: &[u8],
-    program: &[u8],
-    l: Location,
-    c: Ccw,
-    bytes: &[u8],
-    e: Drive,
-    storage: &mut [u8],
-) -> Answer
-    requires { ⌜ Ready (now chain) (now program) (now storage) l c ⌝ }
-    requires { ⌜ length (now bytes) ≤ 16384 ⌝ }
-    ensures { λ r. ⌜ Ends (now (chain .entry)) (now (program .entry)) l c (length (now (bytes .entry))) (now (storage .entry)) (Step.settled (now (bytes .entry)) (driveOf e) (now (storage .entry))) r (now (storage .exit)) ⌝ }
-    ensures { λ r. ⌜ KeptWith e r ⌝ }
-{
-    settle::settled(transfer::transfer(chain, program, l, c, bytes, storage), e)
-}
-
-// A read of a data area of length 0.
-fn empty(
-    chain: &[u8],
-    program: &[u8],
-    l: Location,
-    c: Ccw,
-    bytes: &[u8],
-    e: Drive,
-    storage: &mut [u8],
-) -> Answer
-    requires { ⌜ Ready (now chain) (now program) (now storage) l c ⌝ }
-    requires { ⌜ length (now bytes) ≤ 16384 ⌝ }
-    ensures { λ r. ⌜ Ends (now (chain .entry)) (now (program .entry)) l c (length (now (bytes .entry))) (now (storage .entry)) (Step.excepted (now (bytes .entry)) (driveOf e) (now (storage .entry))) r (now (storage .exit)) ⌝ }
-    ensures { λ r. ⌜ KeptAlways r ⌝ }
-{
-    settle::excepted(transfer::transfer(chain, program, l, c, bytes, storage), e)
-}
-
-// Bytes at the front of `held`, as they arrive with a fault.
-fn arrive(held: &mut [u8], bytes: &[u8], f: Listed)
-    requires { ⌜ length (now bytes) ≤ length (now held) ⌝ }
-    requires { ⌜ length (now bytes) ≤ 16384 ⌝ }
-    requires { ⌜ f .displacement .0 ≤ length (now bytes) ⌝ }
-    ensures { λ _. ⌜ take (length (now (bytes .entry))) (now (held .exit)) ≡ Step.arriving (now (bytes .entry)) (faultFrom f) ⌝ }
-    ensures { λ _. ⌜ length (now (held .exit)) ≡ length (now (held .entry)) ⌝ }
-{
-    let n = bytes.len();
-    copy::put(held, bytes);
-    let displacement = f.displacement;
-    read::arrive(&mut held[..n], displacement, f.first, f.second, f.third);
-}
-
-// A read that ends with a faulted data area. The bytes as they arrive stand in a local array: the image is only read.
-fn struck(
-    chain: &[u8],
-    program: &[u8],
-    l: Location,
-    c: Ccw,
-    bytes: &[u8],
-    x: Place,
-    f: Listed,
-    e: Drive,
-    storage: &mut [u8],
-) -> Answer
-    requires { ⌜ Ready (now chain) (now program) (now storage) l c ⌝ }
-    requires { ⌜ length (now bytes) ≤ 16384 ⌝ }
-    requires { ⌜ f .displacement .0 ≤ length (now bytes) ⌝ }
-    requires { ⌜ PlaceLow x ⌝ }
-    ensures { λ r. ⌜ Struck (now (chain .entry)) (now (program .entry)) l c (now (bytes .entry)) x f (driveOf e) (now (storage .entry)) r (now (storage .exit)) ⌝ }
-    ensures { λ r. ⌜ KeptAlways r ⌝ }
-{
-    let mut held = [0u8; 16384];
-    let n = bytes.len();
-    arrive(&mut held, bytes, f);
-    let moved = transfer::transfer(chain, program, l, c, &held[..n], storage);
-    settle::faulted(moved, l, x, f, n, e)
-}
-
-// ---- read commands
-
-// Whether a read takes a data area of length 0.
-fn takes_empty(k: Read, x: Place) -> bool
-    ensures { λ r. ⌜ r ≡ (k .datas && eqb (x .body) (x .next)) ⌝ }
-{
-    if !k.datas {
-        return false;
-    }
-    x.body == x.next
-}
-
-// The fault of the data area that a read takes.
-fn fault_taken(faults: &[u8], k: Read, x: Place) -> FaultAt
-    ensures { λ r. ⌜ FaultTaken (now (faults .entry)) k x r ⌝ }
-{
-    if !k.datas {
-        return FaultAt::NoFault;
-    }
-    let a = x.at;
-    faults::find_fault(faults, 0, a, x.r)
-}
-
-// A read of the record at a place, whose bytes these are, with the drive behind it.
-fn read_bytes(
-    chain: &[u8],
-    program: &[u8],
-    faults: &[u8],
-    l: Location,
-    c: Ccw,
-    k: Read,
-    x: Place,
-    bytes: &[u8],
-    e: Drive,
-    storage: &mut [u8],
-) -> Answer
-    requires { ⌜ Ready (now chain) (now program) (now storage) l c ⌝ }
-    requires { ⌜ length (now bytes) ≤ 16384 ⌝ }
-    requires { ⌜ x .body ≤ x .next ⌝ }
-    requires { ⌜ FaultsInside (now faults) k x (length (now bytes)) ⌝ }
-    requires { ⌜ PlaceLow x ⌝ }
-    ensures { λ r. ⌜ ReadsBytes (now (chain .entry)) (now (program .entry)) (now (faults .entry)) l c k x (now (bytes .entry)) (driveOf e) (now (storage .entry)) r (now (storage .exit)) ⌝ }
-    ensures { λ r. ⌜ KeptWith e r ⌝ }
-{
-    if takes_empty(k, x) {
-        return empty(chain, program, l, c, bytes, e, storage);
-    }
-    match fault_taken(faults, k, x) {
-        FaultAt::NoFault => plain(chain, program, l, c, bytes, e, storage),
-        FaultAt::Found(f) => struck(chain, program, l, c, bytes, x, f, e, storage),
-    }
-}
-
-// The same by the record's place in the image.
-fn read_at(
-    chain: &[u8],
-    program: &[u8],
-    image: &[u8],
-    faults: &[u8],
-    l: Location,
-    c: Ccw,
-    k: Read,
-    x: Place,
-    e: Drive,
-    storage: &mut [u8],
-) -> Answer
-    requires { ⌜ Ready (now chain) (now program) (now storage) l c ⌝ }
-    requires { ⌜ Begun (now chain) (now program) (now image) (now faults) ⌝ }
-    requires { ⌜ commandOf (c .command) ≡ ReadRecord k ⌝ }
-    requires { ⌜ Lies (now image) x ⌝ }
-    ensures { λ r. ⌜ Carries (now (chain .entry)) (now (program .entry)) (now (faults .entry)) (now (storage .entry)) (planOf l c (driveOf e) (now (storage .entry)) k (recordFrom (now (image .entry)) x) (driveOf e)) r (now (storage .exit)) ⌝ }
-    ensures { λ r. ⌜ KeptWith e r ⌝ }
-{
-    read::hold(image);
-    let from = read::first(x, k);
-    let to = read::last(x, k);
-    read_bytes(
-        chain,
-        program,
-        faults,
-        l,
-        c,
-        k,
-        x,
-        &image[from..to],
-        e,
-        storage,
-    )
-}
-
-// A read of a record: 06, 0E, 12 or 1E.
-fn read_record(
-    chain: &[u8],
-    program: &[u8],
-    image: &[u8],
-    faults: &[u8],
-    l: Location,
-    c: Ccw,
-    k: Read,
-    d: Drive,
-    storage: &mut [u8],
-) -> Answer
-    requires { ⌜ Ready (now chain) (now program) (now storage) l c ⌝ }
-    requires { ⌜ Begun (now chain) (now program) (now image) (now faults) ⌝ }
-    requires { ⌜ commandOf (c .command) ≡ ReadRecord k ⌝ }
-    requires { ⌜ Standing (now image) d ⌝ }
-    ensures { λ r. ⌜ Carries (now (chain .entry)) (now (program .entry)) (now (faults .entry)) (now (storage .entry)) (recordPlan l c (driveOf d) (now (storage .entry)) (now (image .entry)) k) r (now (storage .exit)) ⌝ }
-    ensures { λ r. ⌜ Kept (now (image .entry)) r ⌝ }
-{
-    match d.take(image, k.just, k.datas) {
-        Taken::Nothing => command::refuse(Check::NotFound, l, c, d),
-        Taken::Takes(x, e) => read_at(chain, program, image, faults, l, c, k, x, e, storage),
-    }
-}
-
-// A read of the home address.
-fn read_home(
-    chain: &[u8],
-    program: &[u8],
-    image: &[u8],
-    l: Location,
-    c: Ccw,
-    d: Drive,
-    storage: &mut [u8],
-) -> Answer
-    requires { ⌜ Ready (now chain) (now program) (now storage) l c ⌝ }
-    requires { ⌜ wellFormed lastCylinder (now image) ≡ true ⌝ }
-    requires { ⌜ Standing (now image) d ⌝ }
-    ensures { λ r. ⌜ Homes (now (chain .entry)) (now (program .entry)) l c (driveOf d) (now (image .entry)) (now (storage .entry)) r (now (storage .exit)) ⌝ }
-    ensures { λ r. ⌜ Kept (now (image .entry)) r ⌝ }
-{
-    if !d.found {
-        return command::refuse(Check::NotFound, l, c, d);
-    }
-    let a = d.at;
-    let bytes = [
-        0u8,
-        (a.cylinder / 256) as u8,
-        (a.cylinder % 256) as u8,
-        (a.head / 256) as u8,
-        (a.head % 256) as u8,
-    ];
-    let moved = transfer::transfer(chain, program, l, c, &bytes, storage);
-    settle::settled(moved, d.at_index(image))
-}
-
-// ---- any command
+ghost use Rattle.location.specs.Low.{Low};
+ghost use Rattle.command.specs.Answer.{Kept};
+ghost use Rattle.read_command.specs.Reads.{Begun};
+ghost use Rattle.execute.specs.Executes.{Steps, Executes, InArea, Unchecked, Performs};
 
 // A command that makes no program check.
 fn perform(
     chain: &[u8],
     arguments: &[u8],
     program: &[u8],
-    restarts: &[u8],
+    restart_arguments: &[u8],
     image: &[u8],
     faults: &[u8],
     l: Location,
@@ -273,16 +32,20 @@ fn perform(
     requires { ⌜ InArea (now chain) (now program) l c ⌝ }
     requires { ⌜ Standing (now image) d ⌝ }
     requires { ⌜ k ≡ commandOf (c .command) ⌝ }
-    requires { ⌜ Unchecked (now chain) (now arguments) (now program) (now restarts) (now storage) l c ⌝ }
-    ensures { λ r. ⌜ Performs (now (chain .entry)) (now (arguments .entry)) (now (program .entry)) (now (restarts .entry)) (now (image .entry)) (now (faults .entry)) l c (driveOf d) (now (storage .entry)) r (now (storage .exit)) ⌝ }
+    requires { ⌜ Unchecked (now chain) (now arguments) (now program) (now «restart_arguments») (now storage) l c ⌝ }
+    ensures { λ r.
+        let before = now (storage .entry) in
+        let after = now (storage .exit) in
+        ⌜ Performs (now (chain .entry)) (now (arguments .entry)) (now (program .entry)) (now («restart_arguments» .entry))
+        (now (image .entry)) (now (faults .entry)) l c (driveOf d) before r after ⌝ }
     ensures { λ r. ⌜ Kept (now (image .entry)) r ⌝ }
 {
     match k {
-        Command::ReadHome => read_home(chain, program, image, l, c, d, storage),
+        Command::ReadHome => read_command::read_home(chain, program, image, l, c, d, storage),
         Command::ReadRecord(m) => {
-            read_record(chain, program, image, faults, l, c, m, d, storage)
+            read_command::read_record(chain, program, image, faults, l, c, m, d, storage)
         }
-        _ => command::perform(arguments, restarts, image, l, c, k, d),
+        _ => moveless::perform(arguments, restart_arguments, image, l, c, k, d),
     }
 }
 
@@ -291,7 +54,7 @@ fn execute(
     chain: &[u8],
     arguments: &[u8],
     program: &[u8],
-    restarts: &[u8],
+    restart_arguments: &[u8],
     image: &[u8],
     faults: &[u8],
     l: Location,
@@ -302,18 +65,29 @@ fn execute(
     requires { ⌜ Begun (now chain) (now program) (now image) (now faults) ⌝ }
     requires { ⌜ InArea (now chain) (now program) l c ⌝ }
     requires { ⌜ Standing (now image) d ⌝ }
-    ensures { λ r. ⌜ Executes (now (chain .entry)) (now (arguments .entry)) (now (program .entry)) (now (restarts .entry)) (now (image .entry)) (now (faults .entry)) l c (driveOf d) (now (storage .entry)) r (now (storage .exit)) ⌝ }
+    ensures { λ r.
+        let before = now (storage .entry) in
+        let after = now (storage .exit) in
+        ⌜ Executes (now (chain .entry)) (now (arguments .entry)) (now (program .entry)) (now («restart_arguments» .entry))
+        (now (image .entry)) (now (faults .entry)) l c (driveOf d) before r after ⌝ }
     ensures { λ r. ⌜ Kept (now (image .entry)) r ⌝ }
 {
     let k = drive::command_of(c.command);
-    if !drive::sound(l, c, k, arguments.len(), restarts.len(), storage.len()) {
+    if !drive::sound(
+        l,
+        c,
+        k,
+        arguments.len(),
+        restart_arguments.len(),
+        storage.len(),
+    ) {
         return command::program_check(l, d);
     }
     perform(
         chain,
         arguments,
         program,
-        restarts,
+        restart_arguments,
         image,
         faults,
         l,
@@ -329,7 +103,7 @@ pub fn step(
     chain: &[u8],
     arguments: &[u8],
     program: &[u8],
-    restarts: &[u8],
+    restart_arguments: &[u8],
     image: &[u8],
     faults: &[u8],
     s: State,
@@ -338,7 +112,11 @@ pub fn step(
     requires { ⌜ Begun (now chain) (now program) (now image) (now faults) ⌝ }
     requires { ⌜ Standing (now image) (s .drive) ⌝ }
     requires { ⌜ Low (s .last) ⌝ }
-    ensures { λ r. ⌜ Steps (now (chain .entry)) (now (arguments .entry)) (now (program .entry)) (now (restarts .entry)) (now (image .entry)) (now (faults .entry)) s (now (storage .entry)) r (now (storage .exit)) ⌝ }
+    ensures { λ r.
+        let before = now (storage .entry) in
+        let after = now (storage .exit) in
+        ⌜ Steps (now (chain .entry)) (now (arguments .entry)) (now (program .entry)) (now («restart_arguments» .entry))
+        (now (image .entry)) (now (faults .entry)) s before r after ⌝ }
     ensures { λ r. ⌜ Kept (now (image .entry)) r ⌝ }
 {
     let last = s.last;
@@ -350,7 +128,7 @@ pub fn step(
             chain,
             arguments,
             program,
-            restarts,
+            restart_arguments,
             image,
             faults,
             l,

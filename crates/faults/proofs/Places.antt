@@ -7,14 +7,14 @@ use native.Mathlib.Nat.{add-zero}
 use native.Mathlib.Omega.{arith}
 use mathlib.Core.Path.{_≡_, refl, ap, sym, _∙_}
 use mathlib.Core.Bool.{Bool, true, false, _&&_}
-use mathlib.Core.Option.{Option, none, some}
+use mathlib.Core.Option.{none, some}
 use mathlib.Core.List.{List, [], _∷_}
 use lib.Dec.{eqb, leb}
-use lib.ListN.{length, getD}
+use lib.ListN.{length}
 use borrow.Author.Tests.{eqb-true, leb-true, leb-false}
 use Rattle.base.specs.Choice.{pick, opt}
-use Rattle.base.specs.Bytes.{be16At, part}
-use Rattle.base.proofs.Choice.{split, found, opt-const, opt-some, and-left, and-right}
+use Rattle.base.specs.Bytes.{part}
+use Rattle.base.proofs.Choice.{split, found, opt-const, opt-some}
 use Rattle.base.proofs.Bytes.{length-part, getD-part, be16-part, part-part, part-three}
 use Rattle.fields.specs.declared.Tagged.{Tagged}
 use Rattle.fields.specs.declared.Tagged.the-variants.{Field, Torn}

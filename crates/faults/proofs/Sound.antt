@@ -1,15 +1,15 @@
 -- One fault, and the list: what each test of the check tells of question 3.
 use Prim.Native.Nat.{ℕ, _<_, _≤_}
 use native.Mathlib.Omega.{arith}
-use mathlib.Core.Path.{_≡_, refl, ap, sym, _∙_}
-use mathlib.Core.Bool.{Bool, true, false, _&&_, not}
-use mathlib.Core.Option.{Option, none, some}
-use mathlib.Core.List.{List, [], _∷_}
+use mathlib.Core.Path.{_≡_, refl, sym, _∙_}
+use mathlib.Core.Bool.{Bool, true, false, _&&_}
+use mathlib.Core.Option.{none, some}
+use mathlib.Core.List.{List, _∷_}
 use lib.Dec.{leb}
 use lib.ListN.{length}
 use borrow.Author.Tests.{lt-ltb, le-ltb, le-leb, lt-leb}
-use Rattle.base.specs.Choice.{pick, opt}
-use Rattle.base.proofs.Choice.{found, found-if, opt-opt, opt-const}
+use Rattle.base.specs.Choice.{opt}
+use Rattle.base.proofs.Choice.{found-if, opt-opt, opt-const}
 use Rattle.pack.specs.Pack.{Record, Track, Decoded, decodeAt, packOf, trackIn, numbered, recordIn}
 use Rattle.image.specs.Image.{wellFormed}
 use Rattle.image.proofs.Pass.{decodes}

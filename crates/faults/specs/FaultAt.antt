@@ -8,7 +8,6 @@ use lib.Dec.{eqb}
 use lib.ListN.{getD}
 use Rattle.base.specs.Choice.{pick}
 use Rattle.base.specs.Bytes.{be16At}
-use Rattle.base.specs.declared.FromEnd.{FromEnd}
 use Rattle.fields.specs.TaggedAt.{taggedAt, onTagged}
 use Rattle.address.specs.declared.Address.{Address}
 use Rattle.address.specs.Order.{same}
@@ -34,6 +33,7 @@ listed s st nx = record {
 unfoldable pub faultIn : List ℕ → ℕ → ℕ → ℕ → FaultAt
 faultIn s tag st nx = pick (eqb tag 0x20 && eqb (nx - st) 10) (Found (listed s st nx)) NoFault
 
+-- the fault whose field begins at a place of the list, if one does
 unfoldable pub faultAt : List ℕ → ℕ → FaultAt
 faultAt s at = onTagged (taggedAt s at) NoFault (faultIn s)
 
@@ -54,9 +54,10 @@ FaultFound s at a r NoFault = (fs : List Fault) → faultsAt s at ≡ some fs �
 abbrev pub NamedFrom : List ℕ → ℕ → Address → ℕ → Bool → Type 0
 NamedFrom s at a r b = (fs : List Fault) → faultsAt s at ≡ some fs → not b ≡ missing (naming fs a r)
 
--- Whether one fault, and a list, are sound in an image that decodes.
+-- Whether a fault is sound in an image that decodes.
 abbrev pub FaultSound : List ℕ → Listed → Bool → Type 0
 FaultSound image l b = (d : Decoded) → decodeAt image 0 ≡ some d → b ≡ soundFault (d .tracks) (faultFrom l)
 
+-- the same of the whole list
 abbrev pub FaultsSound : List ℕ → List ℕ → Bool → Type 0
 FaultsSound image s b = (d : Decoded) → decodeAt image 0 ≡ some d → b ≡ soundFrom (d .tracks) s 0

@@ -46,6 +46,7 @@ unfoldable pub naming : List Fault → Address → ℕ → Option Fault
 naming [] a r = none
 naming (f ∷ fs) a r = pick (same (f .at) a && eqb (f .r) r) (some f) (naming fs a r)
 
+-- whether there is nothing, as where no fault names a record
 unfoldable pub missing : {A : Type 0} → Option A → Bool
 missing none = true
 missing (some a) = false

@@ -5,7 +5,7 @@
 --   torn-tells                     what stands where none was found
 use Prim.Native.Nat.{ℕ, _+_, _-_, _<_, _≤_}
 use native.Mathlib.Omega.{arith}
-use mathlib.Core.Path.{_≡_, refl, sym}
+use mathlib.Core.Path.{_≡_}
 use mathlib.Core.List.{List}
 use mathlib.Core.Logic.{_⊎_, inl, inr}
 use lib.Dec.{ltb}
@@ -14,7 +14,6 @@ use borrow.Author.Tests.{lt-ltb, le-ltb, ltb-true, ltb-false}
 use Rattle.base.specs.Choice.{pick}
 use Rattle.base.specs.Bytes.{be16At}
 use Rattle.base.proofs.Choice.{split}
-use Rattle.fields.specs.declared.Tagged.{Tagged}
 use Rattle.fields.specs.declared.Tagged.the-variants.{Field, Torn}
 use Rattle.fields.specs.TaggedAt.{taggedAt}
 

@@ -7,28 +7,28 @@ use Prim.Native.Nat.{ℕ, zero, suc, _+_, _-_, _<_, _≤_}
 use native.Mathlib.Nat.{add-zero, add-suc}
 use native.Mathlib.Omega.{arith}
 use mathlib.Core.Path.{_≡_, refl, ap, sym, _∙_}
-use mathlib.Core.Bool.{Bool, true, false, _&&_}
+use mathlib.Core.Bool.{true, false}
 use mathlib.Core.Option.{Option, none, some}
 use mathlib.Core.List.{List, [], _∷_}
 use mathlib.Core.Logic.{⊎-elim, _⊎_}
 use lib.Dec.{eqb, leb}
-use lib.ListN.{length, getD, take, drop, length-drop}
+use lib.ListN.{length, getD, drop, length-drop}
 use lib.Seq.{getD-drop, drop-drop}
-use borrow.Author.Tests.{le-leb, lt-leb, leb-true, eq-eqb, ne-eqb, eqb-true, eqb-false}
+use borrow.Author.Tests.{le-leb, lt-leb, leb-true, eq-eqb, ne-eqb, eqb-false}
 use Rattle.base.specs.Choice.{pick, opt}
 use Rattle.base.specs.Bytes.{be16At, part}
-use Rattle.base.proofs.Choice.{choose-if, split, found, opt-opt}
+use Rattle.base.proofs.Choice.{choose-if, split, opt-opt}
 use Rattle.base.proofs.Bytes.{be16-drop, part-drop}
 use Rattle.fields.specs.Fields as Spec
-use Rattle.fields.specs.Fields.{begins, front, behind, fieldsUpTo, fieldsAt, folded, foldedAt}
+use Rattle.fields.specs.Fields.{begins, front, afterFront, fieldsUpTo, fieldsAt, folded, foldedAt}
 use Rattle.fields.specs.declared.Tagged.the-variants.{Field, Torn}
 use Rattle.fields.specs.TaggedAt.{taggedAt}
 use Rattle.fields.proofs.FieldAt.{Stands, tagged-tells, torn-tells}
 
 -- ---- as many fields as bytes are enough
 
-length-behind : (l : List ℕ) → 0 < length l → length (behind l) < length l
-unfolding behind
+length-behind : (l : List ℕ) → 0 < length l → length (afterFront l) < length l
+unfolding afterFront
 length-behind l h = simp length-drop (omega arith)
 
 more : (n : ℕ) (l : List ℕ) → length l ≤ n → fieldsUpTo (suc n) l ≡ fieldsUpTo n l
@@ -38,7 +38,7 @@ more (suc n) l h =
     choose-if _ (λ e. refl)
     (λ e. choose-if _
     (λ f. ap (λ (o : Option (List Spec.Field)). opt o none (λ fs. some (front l ∷ fs)))
-    (more n (behind l) (let g : 0 < length l = ne-zero e in omega (arith, length-behind l g))))
+    (more n (afterFront l) (let g : 0 < length l = ne-zero e in omega (arith, length-behind l g))))
     (λ f. refl))
   where
     ne-zero : eqb (length l) 0 ≡ false → 0 < length l
@@ -63,11 +63,11 @@ unfolding fieldsUpTo pick
 torn zero l h e = rw (ne-eqb (length l) 0 (λ z. omega arith))
 torn (suc n) l h e = rw (ne-eqb (length l) 0 (λ z. omega arith), e)
 
-onward : (n : ℕ) (l : List ℕ) → length l ≤ n → 0 < length l → begins l ≡ true → fieldsUpTo n l ≡ opt (fieldsUpTo n (behind l)) none (λ fs. some (front l ∷ fs))
+onward : (n : ℕ) (l : List ℕ) → length l ≤ n → 0 < length l → begins l ≡ true → fieldsUpTo n l ≡ opt (fieldsUpTo n (afterFront l)) none (λ fs. some (front l ∷ fs))
 unfolding fieldsUpTo pick
 onward zero l h g f = absurd (omega arith)
 onward (suc n) l h g f =
-    let e : fieldsUpTo n (behind l) ≡ fieldsUpTo (suc n) (behind l) = same n (suc n) (behind l) (omega (arith, length-behind l g)) (omega arith) in
+    let e : fieldsUpTo n (afterFront l) ≡ fieldsUpTo (suc n) (afterFront l) = same n (suc n) (afterFront l) (omega (arith, length-behind l g)) (omega arith) in
     rw (ne-eqb (length l) 0 (λ z. omega arith), f, ← e)
 
 pub fields-end : (l : List ℕ) (at : ℕ) → length l ≤ at → fieldsAt l at ≡ some []
@@ -108,8 +108,8 @@ module _ (l : List ℕ) (at t st nx : ℕ) (w : Stands l at t st nx) where
       part-drop at 3 (3 + be16At (drop at l) 1) l ∙ rw (n, ← (w .start-is)) in
       λ i. record { tag = tag i; contents = body i }
 
-  behind-at : behind (drop at l) ≡ drop nx l
-  unfolding behind
+  behind-at : afterFront (drop at l) ≡ drop nx l
+  unfolding afterFront
   behind-at =
       let n : at + (3 + be16At (drop at l) 1) ≡ nx = omega (arith, be16-drop at 1 l, w .next-is, w .start-is) in
       drop-drop (3 + be16At (drop at l) 1) at l ∙ ap (λ k. drop k l) n

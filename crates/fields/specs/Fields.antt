@@ -1,4 +1,4 @@
--- Document 01, "Tagged fields": "One-byte tag, two-byte length of what follows, contents."
+-- The tagged fields that bytes consist of (document 01, "Tagged fields").
 use Prim.Native.Nat.{ℕ, zero, suc, _+_}
 use mathlib.Core.Bool.{Bool, _&&_}
 use mathlib.Core.Option.{Option, none, some}
@@ -8,6 +8,7 @@ use lib.ListN.{length, getD, drop}
 use Rattle.base.specs.Choice.{pick, opt}
 use Rattle.base.specs.Bytes.{be16At, part}
 
+-- "One-byte tag, two-byte length of what follows, contents."
 pub record Field : Type 0 where
   pub tag : ℕ
   pub contents : List ℕ
@@ -21,15 +22,15 @@ unfoldable pub front : List ℕ → Field
 front l = record { tag = getD l 0 0; contents = part l 3 (3 + be16At l 1) }
 
 -- the bytes behind it
-unfoldable pub behind : List ℕ → List ℕ
-behind l = drop (3 + be16At l 1) l
+unfoldable pub afterFront : List ℕ → List ℕ
+afterFront l = drop (3 + be16At l 1) l
 
 -- The fields that bytes consist of, one after the other with nothing between or behind them; none where they do not.
 -- n is how many fields are looked for at most; as many as there are bytes are enough.
 unfoldable pub fieldsUpTo : ℕ → List ℕ → Option (List Field)
 fieldsUpTo zero l = pick (eqb (length l) 0) (some []) none
 fieldsUpTo (suc n) l =
-    let rest = fieldsUpTo n (behind l) in
+    let rest = fieldsUpTo n (afterFront l) in
     pick (eqb (length l) 0) (some []) (pick (begins l) (opt rest none (λ fs. some (front l ∷ fs))) none)
 
 -- the fields from a place in the bytes on

@@ -1,13 +1,16 @@
--- What the reader of a field answers: the field at a place by its tag and the places of its contents.
+-- What the readers of a field answer: the field at a place, by its tag and the places of its contents.
 use Prim.Native.Nat.{ℕ, _+_, _-_}
 use mathlib.Core.List.{List}
-use lib.Dec.{ltb}
+use lib.Dec.{eqb, ltb}
 use lib.ListN.{length, getD}
 use Rattle.base.specs.Choice.{pick}
 use Rattle.base.specs.Bytes.{be16At}
 use Rattle.fields.specs.declared.Tagged.{Tagged}
 use Rattle.fields.specs.declared.Tagged.the-variants.{Field, Torn}
+use Rattle.fields.specs.declared.Wanted.{Wanted}
+use Rattle.fields.specs.declared.Wanted.the-variants.{Found, Missing}
 
+-- the field at a place, if a whole one stands there
 unfoldable pub taggedAt : List ℕ → ℕ → Tagged
 taggedAt s at =
     pick (ltb (length s - at) 3) Torn
@@ -18,3 +21,12 @@ taggedAt s at =
 abbrev pub onTagged : {A : Type 0} → Tagged → A → (ℕ → ℕ → ℕ → A) → A
 onTagged Torn y f = y
 onTagged (Field tag start next) y f = f tag start next
+
+-- the field of one tag at a place, if it stands there
+unfoldable pub wantedAt : List ℕ → ℕ → ℕ → Wanted
+wantedAt s at tag = onTagged (taggedAt s at) Missing (λ t start next. pick (eqb t tag) (Found start next) Missing)
+
+-- an answer by cases, the places of the contents handed on
+abbrev pub onWanted : {A : Type 0} → Wanted → A → (ℕ → ℕ → A) → A
+onWanted Missing y f = y
+onWanted (Found start next) y f = f start next

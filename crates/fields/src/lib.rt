@@ -1,6 +1,6 @@
 // Tagged fields: a tag byte, a two-byte length, and that many bytes of contents. No knowledge of disks.
 ghost use mathlib.Core.Path.{_≡_};
-ghost use Rattle.fields.specs.TaggedAt.{taggedAt};
+ghost use Rattle.fields.specs.TaggedAt.{taggedAt, wantedAt};
 
 // What stands at a place: a whole field, whose contents lie from `start` up to `next`, or none, at the end too.
 pub enum Tagged {
@@ -26,5 +26,31 @@ pub fn field_at(s: &[u8], at: usize) -> Tagged
         tag: s[at],
         start: start,
         next: start + len,
+    }
+}
+
+// Whether a field of one tag stands at a place. Found: its contents lie from `start` up to `next`. Missing: another tag, or no whole field.
+pub enum Wanted {
+    Found { start: usize, next: usize },
+    Missing,
+}
+
+pub fn wanted_at(s: &[u8], at: usize, tag: u8) -> Wanted
+    ensures { λ r. ⌜ r ≡ wantedAt (now (s .entry)) at tag ⌝ }
+{
+    let Tagged::Field {
+        tag: t,
+        start,
+        next,
+    } = field_at(s, at)
+    else {
+        return Wanted::Missing;
+    };
+    if t != tag {
+        return Wanted::Missing;
+    }
+    Wanted::Found {
+        start: start,
+        next: next,
     }
 }

@@ -14,8 +14,8 @@ use Rattle.trial.specs.declared.Ran.{Ran}
 use Rattle.trial.specs.declared.Trial.{Trial}
 use Rattle.trial.specs.declared.Trial.the-variants as Trial
 use Rattle.trial.specs.Trial.{Conclusion, conclusionOf}
-use Rattle.answer.specs.Answer.{Writes, Numbers}
-use Rattle.giruve.specs.Run.{callNumber, answerAfter, handing, handed, HandsOut}
+use Rattle.run_answer.specs.RunAnswer.{Writes, Numbers}
+use Rattle.giruve.specs.Run.{callNumber, answerAfter, runHanding, runHanded, HandsOut}
 
 pub refused-so : (a : List ℕ) (q : Question) (n : ℕ) → n ≡ numberOf q → HandsOut a (Trial.Refused q) n a
 unfolding callNumber answerAfter
@@ -26,10 +26,10 @@ unfolding callNumber answerAfter
 ran-so a r n after e w st = (e st, w st)
 
 module _ (a st : List ℕ) (k : Conclusion) where
-  pub unfit : (length a ≡ 36 → ⊥) → (n : ℕ) → n ≡ numberOf Question.Areas → handing n a st ≡ handed a st k
-  unfolding handed pick
+  pub unfit : (length a ≡ 36 → ⊥) → (n : ℕ) → n ≡ numberOf Question.Areas → runHanding n a st ≡ runHanded a st k
+  unfolding runHanded pick
   unfit h n e = rw (ne-eqb _ _ h, e)
 
-  pub fits : length a ≡ 36 → (t : Trial) (after : List ℕ) → conclusionOf t after ≡ k → (n : ℕ) (b : List ℕ) → HandsOut a t n b → handing n b after ≡ handed a st k
-  unfolding handed pick
+  pub fits : length a ≡ 36 → (t : Trial) (after : List ℕ) → conclusionOf t after ≡ k → (n : ℕ) (b : List ℕ) → HandsOut a t n b → runHanding n b after ≡ runHanded a st k
+  unfolding runHanded pick
   fits h t after e n b out = rw (eq-eqb _ _ h, ← e, out after .0, out after .1)

@@ -6,25 +6,28 @@ use lib.ListN.{length}
 use Rattle.base.specs.Choice.{pick}
 use Rattle.questions.specs.declared.Question.the-variants as Question
 use Rattle.questions.specs.Number.{numberOf}
-use Rattle.whole.specs.Reading.{Conclusion, readingCall}
-use Rattle.outcome.specs.Outcome.{outcomeNumber, outcomeAfter}
+use Rattle.reading_runs.specs.Conclusion.{Conclusion}
+use Rattle.whole_reading.specs.Reading.{readingCall}
+use Rattle.reading_answer.specs.ReadingAnswer.{readingReturn, readingAnswerAfter}
 
-pub record ReadOut : Type 0 where
+-- What the call returns, and what the answer area and the areas that a reading may write hold behind it.
+pub record ReadingHanded : Type 0 where
   pub number : ℕ
   pub answer : List ℕ
   pub storage : List ℕ
   pub program : List ℕ
-  pub restarts : List ℕ
+  pub restartArguments : List ℕ
   pub list : List ℕ
 
-abbrev pub readOut : ℕ → (answer storage program restarts list : List ℕ) → ReadOut
-readOut n b st p a l = record { number = n; answer = b; storage = st; program = p; restarts = a; list = l }
+-- the same, from its parts
+abbrev pub readingHanding : ℕ → (answer storage program restartArguments list : List ℕ) → ReadingHanded
+readingHanding n b st p a l = record { number = n; answer = b; storage = st; program = p; restartArguments = a; list = l }
 
 -- a reading's conclusion, its answer in an answer area
-abbrev pub concludedOut : (answer : List ℕ) → Conclusion → ReadOut
-concludedOut b k = readOut (outcomeNumber (k .answer)) (outcomeAfter b (k .answer)) (k .storage) (k .program) (k .restarts) (k .list)
+abbrev pub concludedHanding : (answer : List ℕ) → Conclusion → ReadingHanded
+concludedHanding b k = readingHanding (readingReturn (k .answer)) (readingAnswerAfter b (k .answer)) (k .storage) (k .program) (k .restartArguments) (k .list)
 
 -- What a call comes to. An answer area is one of 11 bytes; question 1 refuses any other.
-unfoldable pub readingHanded : (chain arguments st image faults extent : List ℕ) → ℕ → (p a l answer : List ℕ) → ReadOut
+unfoldable pub readingHanded : (chain arguments st image faults extent : List ℕ) → ℕ → (p a l answer : List ℕ) → ReadingHanded
 readingHanded chain arguments st image faults extent n p a l b =
-    pick (eqb (length b) 11) (concludedOut b (readingCall chain arguments st image faults extent n p a l)) (readOut (numberOf Question.Areas) b st p a l)
+    pick (eqb (length b) 11) (concludedHanding b (readingCall chain arguments st image faults extent n p a l)) (readingHanding (numberOf Question.Areas) b st p a l)

@@ -11,9 +11,9 @@ ghost use Rattle.faults.specs.Faults.{faultsAnswer};
 ghost use Rattle.trial.specs.Trial.{runCall, restartCall, TrialLow};
 ghost use Rattle.giruve.specs.Areas.{runAnswer, restartAnswer};
 ghost use Rattle.recover.specs.Recover.{recoverCall};
-ghost use Rattle.giruve.specs.Run.{HandsOut, handing, handed};
-ghost use Rattle.giruve.specs.Recover.{mending, mended};
-ghost use Rattle.giruve.specs.Reading.{readOut, readingHanded};
+ghost use Rattle.giruve.specs.Run.{HandsOut, runHanding, runHanded};
+ghost use Rattle.giruve.specs.Recover.{recoveryHanding, recoveryHanded};
+ghost use Rattle.giruve.specs.Reading.{readingHanding, readingHanded};
 
 // Questions 1 and 2: 0, 1 or 2.
 #[no_mangle]
@@ -59,10 +59,10 @@ pub extern "C" fn giruve_check_areas(
 
 // Question 1 for the restart areas, from their lengths: 0 or 1.
 #[no_mangle]
-pub extern "C" fn giruve_check_restart_areas(program: usize, arguments: usize) -> u8
-    ensures { λ r. ⌜ r ≡ answerOf (restartAnswer program arguments) ⌝ }
+pub extern "C" fn giruve_check_restart_areas(program: usize, restart_arguments: usize) -> u8
+    ensures { λ r. ⌜ r ≡ answerOf (restartAnswer program «restart_arguments») ⌝ }
 {
-    if questions::restart_areas(program, arguments) {
+    if questions::restart_areas(program, restart_arguments) {
         return questions::answer(Checked::Accepted);
     }
     questions::answer(Checked::Refused(Question::Areas))
@@ -84,13 +84,13 @@ fn hand_out(answer: &mut [u8], t: Trial) -> u8
             return questions::number(q);
         }
         Trial::Ran(r) => {
-            answer::put(answer, r);
-            return answer::number(r);
+            run_answer::put(answer, r);
+            return run_answer::number(r);
         }
     }
 }
 
-// A run of a chain: 0 ended, 10 "limit", 1, 2 or 3 refused. The answer area has 36 bytes; another length is refused by 1.
+// A run of a chain: 0 ended, 64 "limit", 1, 2 or 3 refused. The answer area has 36 bytes; another length is refused by 1.
 // A refusal leaves storage and answer as they were.
 #[no_mangle]
 pub extern "C" fn giruve_run(
@@ -102,7 +102,9 @@ pub extern "C" fn giruve_run(
     limit: usize,
     answer: &mut [u8],
 ) -> u8
-    ensures { λ r. ⌜ handing r (now (answer .exit)) (now (storage .exit)) ≡ handed (now (answer .entry)) (now (storage .entry)) (runCall (now (chain .entry)) (now (arguments .entry)) (now (storage .entry)) (now (image .entry)) (now (faults .entry)) limit) ⌝ }
+    ensures { λ r.
+        let called = runCall (now (chain .entry)) (now (arguments .entry)) (now (storage .entry)) (now (image .entry)) (now (faults .entry)) limit in
+        ⌜ runHanding r (now (answer .exit)) (now (storage .exit)) ≡ runHanded (now (answer .entry)) (now (storage .entry)) called ⌝ }
 {
     if answer.len() != ANSWER_LENGTH {
         return questions::number(Question::Areas);
@@ -117,18 +119,29 @@ pub extern "C" fn giruve_run_restart(
     chain: &[u8],
     arguments: &[u8],
     program: &[u8],
-    restarts: &[u8],
+    restart_arguments: &[u8],
     storage: &mut [u8],
     image: &[u8],
     faults: &[u8],
     answer: &mut [u8],
 ) -> u8
-    ensures { λ r. ⌜ handing r (now (answer .exit)) (now (storage .exit)) ≡ handed (now (answer .entry)) (now (storage .entry)) (restartCall (now (chain .entry)) (now (arguments .entry)) (now (program .entry)) (now (restarts .entry)) (now (storage .entry)) (now (image .entry)) (now (faults .entry))) ⌝ }
+    ensures { λ r.
+        let called = restartCall (now (chain .entry)) (now (arguments .entry)) (now (program .entry)) (now («restart_arguments» .entry))
+        (now (storage .entry)) (now (image .entry)) (now (faults .entry)) in
+        ⌜ runHanding r (now (answer .exit)) (now (storage .exit)) ≡ runHanded (now (answer .entry)) (now (storage .entry)) called ⌝ }
 {
     if answer.len() != ANSWER_LENGTH {
         return questions::number(Question::Areas);
     }
-    let t = trial::run_restart(chain, arguments, program, restarts, storage, image, faults);
+    let t = trial::run_restart(
+        chain,
+        arguments,
+        program,
+        restart_arguments,
+        storage,
+        image,
+        faults,
+    );
     hand_out(answer, t)
 }
 
@@ -140,19 +153,23 @@ pub extern "C" fn giruve_recover(
     extent: &[u8],
     storage: &mut [u8],
     program: &mut [u8],
-    arguments: &mut [u8],
+    restart_arguments: &mut [u8],
     answer: &mut [u8],
 ) -> u8
-    ensures { λ r. ⌜ mending r (now (answer .exit)) (now (storage .exit)) (now (program .exit)) (now (arguments .exit)) ≡ mended (now (answer .entry)) (now (storage .entry)) (now (program .entry)) (now (arguments .entry)) (recoverCall (now (chain .entry)) (now (report .entry)) (now (extent .entry)) (now (storage .entry)) (now (program .entry)) (now (arguments .entry))) ⌝ }
+    ensures { λ r.
+        let called = recoverCall (now (chain .entry)) (now (report .entry)) (now (extent .entry))
+        (now (storage .entry)) (now (program .entry)) (now («restart_arguments» .entry)) in
+        let after = recoveryHanding r (now (answer .exit)) (now (storage .exit)) (now (program .exit)) (now («restart_arguments» .exit)) in
+        ⌜ after ≡ recoveryHanded (now (answer .entry)) (now (storage .entry)) (now (program .entry)) (now («restart_arguments» .entry)) called ⌝ }
 {
     if answer.len() != 10 {
         return questions::number(Question::Areas);
     }
-    let r = recover::recover(chain, report, extent, storage, program, arguments);
-    reply::put(answer, r)
+    let r = recover::recover(chain, report, extent, storage, program, restart_arguments);
+    recovery_answer::put(answer, r)
 }
 
-// The whole reading. An answer area is one of 11 bytes; returned is 0 ended, 10 "limit", 11 "stopped", or the refusing question's number.
+// The whole reading. An answer area is one of 11 bytes; returned is 0 ended, 64 "limit", 65 "stopped", or the refusing question's number.
 #[no_mangle]
 pub extern "C" fn giruve_reading(
     chain: &[u8],
@@ -163,16 +180,19 @@ pub extern "C" fn giruve_reading(
     extent: &[u8],
     limit: usize,
     program: &mut [u8],
-    restarts: &mut [u8],
+    restart_arguments: &mut [u8],
     list: &mut [u8],
     answer: &mut [u8],
 ) -> u8
-    ensures { λ r. ⌜ readOut r (now (answer .exit)) (now (storage .exit)) (now (program .exit)) (now (restarts .exit)) (now (list .exit)) ≡ readingHanded (now (chain .entry)) (now (arguments .entry)) (now (storage .entry)) (now (image .entry)) (now (faults .entry)) (now (extent .entry)) limit (now (program .entry)) (now (restarts .entry)) (now (list .entry)) (now (answer .entry)) ⌝ }
+    ensures { λ r.
+        let after = readingHanding r (now (answer .exit)) (now (storage .exit)) (now (program .exit)) (now («restart_arguments» .exit)) (now (list .exit)) in
+        ⌜ after ≡ readingHanded (now (chain .entry)) (now (arguments .entry)) (now (storage .entry)) (now (image .entry)) (now (faults .entry))
+        (now (extent .entry)) limit (now (program .entry)) (now («restart_arguments» .entry)) (now (list .entry)) (now (answer .entry)) ⌝ }
 {
     if answer.len() != 11 {
         return questions::number(Question::Areas);
     }
-    let o = whole::read(
+    let o = whole_reading::read(
         chain,
         arguments,
         storage,
@@ -181,8 +201,8 @@ pub extern "C" fn giruve_reading(
         extent,
         limit,
         program,
-        restarts,
+        restart_arguments,
         list,
     );
-    outcome::put(answer, o)
+    reading_answer::put(answer, o)
 }

@@ -1,16 +1,15 @@
 -- One record, one track: what each test of the pass tells of the whole check.
 use Prim.Native.Nat.{ℕ, _+_, _-_, _<_, _≤_}
 use native.Mathlib.Omega.{arith}
-use mathlib.Core.Path.{_≡_, refl, ap, sym, _∙_}
-use mathlib.Core.Bool.{Bool, true, false, _&&_, not}
+use mathlib.Core.Path.{_≡_, refl, ap, _∙_}
+use mathlib.Core.Bool.{Bool, true, false, _&&_}
 use mathlib.Core.Option.{Option, none, some}
 use mathlib.Core.List.{List, [], _∷_}
 use lib.Dec.{eqb, leb}
 use lib.ListN.{length}
 use borrow.Author.Tests.{eq-eqb, ne-eqb, le-leb}
-use Rattle.base.specs.Choice.{pick, opt}
-use Rattle.base.specs.Bytes.{part}
-use Rattle.base.proofs.Choice.{split, found, found-if, opt-opt, opt-const, and-true}
+use Rattle.base.specs.Choice.{opt}
+use Rattle.base.proofs.Choice.{found, found-if, opt-opt, opt-const, and-true}
 use Rattle.base.proofs.Bytes.{length-part}
 use Rattle.address.specs.declared.Address.{Address}
 use Rattle.address.specs.Order.{same, onPack}
@@ -18,12 +17,12 @@ use Rattle.pack.specs.declared.HomeAt.the-variants.{Home, NoHome}
 use Rattle.pack.specs.declared.Place.{Place}
 use Rattle.pack.specs.declared.RecordAt.{RecordAt}
 use Rattle.pack.specs.declared.RecordAt.the-variants.{Located, NoRecord}
-use Rattle.pack.specs.Pack.{Record, Decoded, ledByRecord, ledByHome, nothing, decodeAt}
+use Rattle.pack.specs.Pack.{Decoded, ledByRecord, ledByHome, decodeAt}
 use Rattle.pack.specs.Places.{homeAt, recordAt, recordFrom}
 use Rattle.pack.proofs.Decode.{decode-end, decode-home, decode-record, decode-neither, Lies, record-bounds}
 use Rattle.pack.proofs.Lookup.{next-record, no-record}
 use Rattle.image.specs.declared.Previous.{Previous}
-use Rattle.image.specs.declared.Previous.the-variants.{Nothing, Behind}
+use Rattle.image.specs.declared.Previous.the-variants.{Behind}
 use Rattle.image.specs.Image.{soundRecord, member, zeroFirst, soundRecords, soundTrack, follows, soundTracks, noRecords, wellFormedFrom, wellFormed}
 use Rattle.image.specs.Pass.{fitsIn, soundInside}
 

@@ -7,21 +7,21 @@
 --   records-few               it has at most 256 records
 use Prim.Native.Nat.{ℕ, zero, suc, _+_, _<_, _≤_}
 use native.Mathlib.Omega.{arith}
-use mathlib.Core.Path.{_≡_, refl, ap, sym, _∙_}
-use mathlib.Core.Bool.{Bool, true, false, _&&_, not}
-use mathlib.Core.Option.{Option, none, some}
+use mathlib.Core.Path.{_≡_, refl, sym, _∙_}
+use mathlib.Core.Bool.{true, false, _&&_, not}
+use mathlib.Core.Option.{some}
 use mathlib.Core.List.{List, [], _∷_, map}
 use lib.Dec.{eqb, leb}
 use lib.ListN.{length, getD, length-map}
-use borrow.Author.Tests.{eqb-true, eqb-false, eq-eqb, ne-eqb, leb-true, not-true}
+use borrow.Author.Tests.{eqb-true, eq-eqb, ne-eqb, leb-true, not-true}
 use Rattle.base.specs.Choice.{pick, opt}
 use Rattle.base.proofs.Choice.{split, and-left, and-right}
 use Rattle.address.specs.declared.Address.{Address}
-use Rattle.address.specs.Order.{same, onPack}
-use Rattle.pack.specs.Pack.{Record, Track, Decoded, decodeAt, packOf, trackIn, numbered}
+use Rattle.address.specs.Order.{same}
+use Rattle.pack.specs.Pack.{Record, Track, packOf, trackIn, numbered}
 use Rattle.image.specs.declared.Previous.{Previous}
 use Rattle.image.specs.declared.Previous.the-variants.{Nothing, Behind}
-use Rattle.image.specs.Image.{soundRecord, member, zeroFirst, soundRecords, soundTrack, follows, soundTracks, noRecords, wellFormedFrom, wellFormed}
+use Rattle.image.specs.Image.{soundRecord, member, soundRecords, soundTrack, follows, soundTracks, noRecords, wellFormedFrom, wellFormed}
 use Rattle.image.proofs.Pass.{decodes}
 use Rattle.image.proofs.Pigeons.{Without, Apart, Below, few}
 

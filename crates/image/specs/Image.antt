@@ -2,7 +2,6 @@
 -- The last cylinder is a parameter.
 use Prim.Native.Nat.{ℕ, _+_}
 use mathlib.Core.Bool.{Bool, true, false, _&&_, not}
-use mathlib.Core.Option.{Option, none, some}
 use mathlib.Core.List.{List, [], _∷_}
 use lib.Dec.{eqb, leb}
 use lib.ListN.{length}
@@ -13,7 +12,7 @@ use Rattle.questions.specs.declared.Checked.the-variants.{Accepted, Refused}
 use Rattle.questions.specs.Areas.{imageFits}
 use Rattle.address.specs.declared.Address.{Address}
 use Rattle.address.specs.Order.{lastCylinder, same, before, onPack}
-use Rattle.pack.specs.Pack.{Record, Track, Decoded, decodeAt}
+use Rattle.pack.specs.Pack.{Record, Track, decodeAt}
 use Rattle.image.specs.declared.Previous.{Previous}
 use Rattle.image.specs.declared.Previous.the-variants.{Nothing, Behind}
 
@@ -25,6 +24,7 @@ soundRecord a x = same (x .at) a && leb (x .r) 255 && leb (length (x .key) + len
 
 -- ---- the records of one track
 
+-- whether a record number is among others
 unfoldable pub member : ℕ → List ℕ → Bool
 member r [] = false
 member r (q ∷ qs) = pick (eqb q r) true (member r qs)
@@ -42,6 +42,8 @@ soundRecords a seen (x ∷ xs) = soundRecord a x && not (member (x .r) seen) && 
 
 -- ---- the tracks
 
+-- "R = 0 first, then 1 to 255 others with distinct R", "cylinder 0 to 410, head 0 to 18";
+-- 1 to 255 is the range of R, and a track with R0 alone is sound
 unfoldable pub soundTrack : ℕ → Track → Bool
 soundTrack last t = onPack last (t .at) && zeroFirst (t .records) && soundRecords (t .at) [] (t .records)
 
@@ -57,6 +59,7 @@ soundTracks last b (t ∷ ts) = follows b (t .at) && soundTrack last t && soundT
 
 -- ---- the image
 
+-- whether a list of records is empty
 unfoldable pub noRecords : List Record → Bool
 noRecords [] = true
 noRecords (x ∷ xs) = false
@@ -65,6 +68,7 @@ noRecords (x ∷ xs) = false
 unfoldable pub wellFormedFrom : ℕ → Previous → List ℕ → ℕ → Bool
 wellFormedFrom last b s at = opt (decodeAt s at) false (λ d. noRecords (d .records) && soundTracks last b (d .tracks))
 
+-- "Is the image well formed?"
 unfoldable pub wellFormed : ℕ → List ℕ → Bool
 wellFormed last s = wellFormedFrom last Nothing s 0
 

@@ -9,7 +9,7 @@ use Rattle.base.specs.Choice.{opt}
 use Rattle.address.specs.declared.Address.{Address}
 use Rattle.address.specs.Order.{same}
 use Rattle.pack.specs.declared.Place.{Place}
-use Rattle.pack.specs.Pack.{Decoded, decodeAt}
+use Rattle.pack.specs.Pack.{decodeAt}
 use Rattle.image.specs.declared.Previous.{Previous}
 use Rattle.image.specs.declared.Previous.the-variants.{Behind}
 use Rattle.image.specs.declared.RecordsEnd.{RecordsEnd}

@@ -1,11 +1,9 @@
 -- What the readers of home addresses and records answer, from the tests that their code makes.
 use Prim.Native.Nat.{ℕ, _+_, _-_, _<_, _≤_}
-use native.Mathlib.Omega.{arith}
-use mathlib.Core.Path.{_≡_, refl, sym, _∙_}
-use mathlib.Core.Bool.{Bool, true, false, _&&_}
+use mathlib.Core.Path.{_≡_}
+use mathlib.Core.Bool.{false}
 use mathlib.Core.List.{List}
-use lib.Dec.{eqb, leb}
-use lib.ListN.{length, getD}
+use lib.ListN.{getD}
 use borrow.Author.Tests.{le-leb, lt-leb, eq-eqb, ne-eqb}
 use Rattle.base.specs.Choice.{pick}
 use Rattle.base.specs.Bytes.{be16At}
@@ -15,7 +13,6 @@ use Rattle.address.specs.declared.Address.{Address}
 use Rattle.address.specs.Order.{same}
 use Rattle.pack.specs.declared.HomeAt.{HomeAt}
 use Rattle.pack.specs.declared.HomeAt.the-variants.{Home, NoHome}
-use Rattle.pack.specs.declared.Place.{Place}
 use Rattle.pack.specs.declared.RecordAt.{RecordAt}
 use Rattle.pack.specs.declared.RecordAt.the-variants.{Located, NoRecord}
 use Rattle.pack.specs.Places.{isHome, homeIn, homeAt, isTrack, isRecord, placed, placeIn, recordAt}

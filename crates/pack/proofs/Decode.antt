@@ -7,13 +7,13 @@
 use Prim.Native.Nat.{ℕ, _+_, _-_, _<_, _≤_}
 use native.Mathlib.Nat.{add-zero}
 use native.Mathlib.Omega.{arith}
-use mathlib.Core.Path.{_≡_, refl, ap, sym, _∙_}
-use mathlib.Core.Bool.{Bool, true, false, _&&_}
+use mathlib.Core.Path.{_≡_, refl, ap, _∙_}
+use mathlib.Core.Bool.{true, false, _&&_}
 use mathlib.Core.Option.{Option, none, some}
-use mathlib.Core.List.{List, [], _∷_}
+use mathlib.Core.List.{List}
 use lib.Dec.{eqb, leb}
 use lib.ListN.{length, getD}
-use borrow.Author.Tests.{eq-eqb, ne-eqb, eqb-true, eqb-false, leb-true}
+use borrow.Author.Tests.{eqb-true, leb-true}
 use Rattle.base.specs.Choice.{pick, opt}
 use Rattle.base.specs.Bytes.{be16At, part}
 use Rattle.base.proofs.Choice.{split, found, opt-const, and-left, and-right}
@@ -29,7 +29,7 @@ use Rattle.pack.specs.declared.HomeAt.the-variants.{Home, NoHome}
 use Rattle.pack.specs.declared.Place.{Place}
 use Rattle.pack.specs.declared.RecordAt.{RecordAt}
 use Rattle.pack.specs.declared.RecordAt.the-variants.{Located, NoRecord}
-use Rattle.pack.specs.Pack.{Record, recordOf, homeOf, Decoded, ledByRecord, ledByHome, ledBy, nothing, decodeAt}
+use Rattle.pack.specs.Pack.{recordOf, homeOf, Decoded, ledByRecord, ledByHome, ledBy, nothing, decodeAt}
 use Rattle.pack.specs.Places.{onHome, onRecord, isHome, homeIn, homeAt, isRecord, placed, placeIn, recordAt, recordFrom}
 
 -- ---- contents that are a part of the bytes

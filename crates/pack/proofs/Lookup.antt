@@ -3,21 +3,19 @@
 --   next-home                  from a home address to its records
 --   track-here, track-on, no-more       the search for a track, field by field
 --   record-here, record-on              the search for a record number
-use Prim.Native.Nat.{ℕ, _+_, _-_, _<_, _≤_}
+use Prim.Native.Nat.{ℕ, _<_}
 use native.Mathlib.Omega.{arith}
 use mathlib.Core.Path.{_≡_, refl, ap, sym, _∙_}
-use mathlib.Core.Bool.{Bool, true, false, _&&_}
-use mathlib.Core.Option.{Option, none, some}
-use mathlib.Core.List.{List, [], _∷_}
-use lib.Dec.{eqb, leb}
-use lib.ListN.{length, getD}
-use borrow.Author.Tests.{eq-eqb, ne-eqb, eqb-true, eqb-false, leb-true, leb-false}
-use Rattle.base.specs.Choice.{pick, opt}
+use mathlib.Core.Bool.{true, false}
+use mathlib.Core.Option.{none, some}
+use mathlib.Core.List.{List, []}
+use lib.Dec.{leb}
+use lib.ListN.{length}
+use borrow.Author.Tests.{eq-eqb, ne-eqb, leb-true, leb-false}
+use Rattle.base.specs.Choice.{pick}
 use Rattle.base.proofs.Choice.{split, opt-some, some-is}
-use Rattle.fields.specs.declared.Tagged.{Tagged}
 use Rattle.fields.specs.declared.Tagged.the-variants.{Field, Torn}
 use Rattle.fields.specs.TaggedAt.{taggedAt}
-use Rattle.fields.proofs.FieldAt.{bounds}
 use Rattle.address.specs.declared.Address.{Address}
 use Rattle.address.specs.Order.{same}
 use Rattle.pack.specs.declared.HomeAt.{HomeAt}
@@ -25,8 +23,8 @@ use Rattle.pack.specs.declared.HomeAt.the-variants.{Home, NoHome}
 use Rattle.pack.specs.declared.Place.{Place}
 use Rattle.pack.specs.declared.RecordAt.{RecordAt}
 use Rattle.pack.specs.declared.RecordAt.the-variants.{Located, NoRecord}
-use Rattle.pack.specs.Pack.{Record, Track, Decoded, ledByRecord, ledByHome, nothing, decodeAt, trackIn, numbered}
-use Rattle.pack.specs.Places.{onHome, onRecord, homeIn, homeAt, isTrack, placeIn, recordAt, recordFrom}
+use Rattle.pack.specs.Pack.{Track, Decoded, ledByRecord, ledByHome, decodeAt, trackIn, numbered}
+use Rattle.pack.specs.Places.{homeIn, homeAt, isTrack, placeIn, recordAt, recordFrom}
 use Rattle.pack.proofs.Decode.{led-by, decode-end, decode-torn, decode-field, decode-home, decode-record, decode-neither}
 
 not-none : {A P : Type 0} {a : A} → none ≡ some a → P

@@ -1,7 +1,7 @@
 -- The decoded pack: what the tagged fields of an image say (document 01, "Tagged fields", "Image").
 -- Whether that is well formed is another matter: question 2, in the crate `image`.
 use Prim.Native.Nat.{ℕ, _+_}
-use mathlib.Core.Bool.{Bool, _&&_}
+use mathlib.Core.Bool.{_&&_}
 use mathlib.Core.Option.{Option, none, some}
 use mathlib.Core.List.{List, [], _∷_}
 use lib.Dec.{eqb, leb}
@@ -63,6 +63,7 @@ ledBy f d =
     (pick (eqb (f .tag) 2) (opt (recordOf (f .contents)) none (λ x. some (ledByRecord x d)))
     none)
 
+-- what no fields at all decode to
 abbrev pub nothing : Decoded
 nothing = record { records = []; tracks = [] }
 

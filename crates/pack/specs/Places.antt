@@ -19,12 +19,14 @@ use Rattle.pack.specs.declared.RecordAt.{RecordAt}
 use Rattle.pack.specs.declared.RecordAt.the-variants.{Located, NoRecord}
 use Rattle.pack.specs.declared.TrackAt.{TrackAt}
 use Rattle.pack.specs.declared.TrackAt.the-variants.{Records, NoTrack}
-use Rattle.pack.specs.Pack.{Record, Track, Decoded, decodeAt, packOf, trackIn, numbered}
+use Rattle.pack.specs.Pack.{Record, Track, Decoded, decodeAt, trackIn, numbered}
 
+-- an answer by cases, the home address and the place behind its field handed on
 abbrev pub onHome : {A : Type 0} → HomeAt → A → (Address → ℕ → A) → A
 onHome NoHome y f = y
 onHome (Home a nx) y f = f a nx
 
+-- an answer by cases, the record's places handed on
 abbrev pub onRecord : {A : Type 0} → RecordAt → A → (Place → A) → A
 onRecord NoRecord y f = y
 onRecord (Located p) y f = f p
@@ -39,6 +41,7 @@ isHome s st nx = eqb (nx - st) 5 && eqb (getD s st 0) 0 && eqb (getD s (st + 3) 
 unfoldable pub homeIn : List ℕ → ℕ → ℕ → ℕ → HomeAt
 homeIn s tag st nx = pick (eqb tag 1 && isHome s st nx) (Home (record { cylinder = be16At s (st + 1); head = getD s (st + 4) 0 }) nx) NoHome
 
+-- the home address whose field begins at a place of the image, if one does
 unfoldable pub homeAt : List ℕ → ℕ → HomeAt
 homeAt s at = onTagged (taggedAt s at) NoHome (homeIn s)
 
@@ -66,6 +69,7 @@ placed s st nx = record {
 unfoldable pub placeIn : List ℕ → ℕ → ℕ → ℕ → RecordAt
 placeIn s tag st nx = pick (eqb tag 2 && isRecord s st nx) (Located (placed s st nx)) NoRecord
 
+-- the record whose field begins at a place of the image, if one does
 unfoldable pub recordAt : List ℕ → ℕ → RecordAt
 recordAt s at = onTagged (taggedAt s at) NoRecord (placeIn s)
 
@@ -78,6 +82,7 @@ pub record Within (s : List ℕ) (p : Place) : Type 0 where
   pub body-short : p .next < p .body + 65536
   pub inside : p .next ≤ length s
 
+-- the same where a record was found
 abbrev pub Bounded : List ℕ → RecordAt → Type 0
 Bounded s NoRecord = Unit {0}
 Bounded s (Located p) = Within s p

@@ -2,7 +2,7 @@
 use address::Address;
 use fields::Tagged;
 ghost use mathlib.Core.Path.{_≡_};
-ghost use Prim.Native.Nat.{_<_, _≤_};
+ghost use Prim.Native.Nat.{_≤_};
 ghost use lib.ListN.{length};
 ghost use Rattle.pack.specs.Places.{homeIn, homeAt, isTrack, placeIn, recordAt, Bounded, TrackFound, RecordFound};
 

@@ -117,10 +117,10 @@ module _ (image : List ℕ) (d : Drive) where
 -- ---- a search
 
 module _ (image : List ℕ) (d : Drive) (x : Spot) (n : ℕ) (e : ExaminesAt image d x n) (g : List ℕ) (b : Bool) (k : sameBytes g (identifier (recordFrom image (x .parts))) ≡ b) (y : Drive) where
-  pub examines-equal : b ≡ true → driveOf y ≡ Abstract.behind (driveOf d) (x .place) true 0 → Examines image d g (Equal y)
+  pub examines-equal : b ≡ true → driveOf y ≡ Abstract.movedPast (driveOf d) (x .place) true 0 → Examines image d g (Equal y)
   unfolding pick
   examines-equal h q = λ l c st. e l c st g ∙ rw (k, h, ← q)
 
-  pub examines-unequal : b ≡ false → driveOf y ≡ Abstract.behind (driveOf d) (x .place) true n → Examines image d g (Unequal y)
+  pub examines-unequal : b ≡ false → driveOf y ≡ Abstract.movedPast (driveOf d) (x .place) true n → Examines image d g (Unequal y)
   unfolding pick
   examines-unequal h q = λ l c st. e l c st g ∙ rw (k, h, ← q)

@@ -39,7 +39,7 @@ module _ (image : List ℕ) (d : Drive) (just datas : Bool) where
 
   module _ (t : Track) (o : OnTrack image d t) where
     -- a read takes what its place on the track names
-    takes : (x : Spot) (y : Drive) → Spotted image t x → taken just (driveOf d) (length (t .records)) ≡ x .place → driveOf y ≡ Abstract.behind (driveOf d) (x .place) (not datas) 0
+    takes : (x : Spot) (y : Drive) → Spotted image t x → taken just (driveOf d) (length (t .records)) ≡ x .place → driveOf y ≡ Abstract.movedPast (driveOf d) (x .place) (not datas) 0
         → TakesFor image d just datas (Takes (x .parts) y)
     unfolding Step.planRead Step.planPlace Step.planRecord opt pick
     takes x y s e q = λ l c st p k j f. rw (o .there, j, e, lt-ltb _ _ (s .inside), s .is, f, ← q)
@@ -53,7 +53,7 @@ module _ (image : List ℕ) (d : Drive) (just datas : Bool) where
       unfolding taken pick
       next-taken = rw e
 
-      pub take-seen : (x : Spot) (y : Drive) → Ahead image d (Seen x) → driveOf y ≡ Abstract.behind (driveOf d) (x .place) (not datas) 0 → TakesFor image d just datas (Takes (x .parts) y)
+      pub take-seen : (x : Spot) (y : Drive) → Ahead image d (Seen x) → driveOf y ≡ Abstract.movedPast (driveOf d) (x .place) (not datas) 0 → TakesFor image d just datas (Takes (x .parts) y)
       take-seen x y a q = let s = a t o in takes x y (s .0) (next-taken ∙ sym (s .1)) q
 
       pub take-unseen : Ahead image d Unseen → TakesFor image d just datas Nothing
@@ -63,7 +63,7 @@ module _ (image : List ℕ) (d : Drive) (t : Track) (o : OnTrack image d t) (h :
   pub just-spot : (p : Place) → recordAt image (d .behind) ≡ Located p → Within image p → Spotted image t (spotAt (d .next - 1) (d .behind) p)
   just-spot p g w = let j = o .just h in spotted image t (d .next - 1) (d .behind) (j .2) p (j .1) g w
 
-  pub take-just : (datas : Bool) (x : Spot) (y : Drive) → x .place ≡ d .next - 1 → Spotted image t x → driveOf y ≡ Abstract.behind (driveOf d) (x .place) (not datas) 0
+  pub take-just : (datas : Bool) (x : Spot) (y : Drive) → x .place ≡ d .next - 1 → Spotted image t x → driveOf y ≡ Abstract.movedPast (driveOf d) (x .place) (not datas) 0
       → TakesFor image d true datas (Takes (x .parts) y)
   unfolding taken pick
   take-just datas x y e s q = takes image d true datas t o x y s (rw (h, e)) q

@@ -17,7 +17,7 @@ use Rattle.pack.specs.Places.{recordAt, recordFrom, Within}
 use Rattle.channel.specs.declared.Ccw.{Ccw}
 use Rattle.channel.specs.declared.Location.{Location}
 use Rattle.channel.specs.Ccw.{next}
-use Rattle.drive.specs.Drive.{turn, pastZero, behind, identifier, noRecord, sameBytes}
+use Rattle.drive.specs.Drive.{turn, pastZero, movedPast, identifier, noRecord, sameBytes}
 use Rattle.drive.specs.Step.{done, planSearch}
 use Rattle.position.specs.declared.Drive.{Drive}
 use Rattle.position.specs.declared.Spot.{Spot}
@@ -53,8 +53,8 @@ names a r p = same (p .at) a && eqb (p .r) r
 abbrev pub ExaminesAt : List ℕ → Drive → Spot → ℕ → Type 0
 ExaminesAt image d x n =
     (l : Location) (c : Ccw) (st g : List ℕ) → planSearch l c (driveOf d) st (packOf image) g
-    ≡ pick (sameBytes g (identifier (recordFrom image (x .parts)))) (done l c (driveOf d) st (next (next l)) (behind (driveOf d) (x .place) true 0))
-    (done l c (driveOf d) st (next l) (behind (driveOf d) (x .place) true n))
+    ≡ pick (sameBytes g (identifier (recordFrom image (x .parts)))) (done l c (driveOf d) st (next (next l)) (movedPast (driveOf d) (x .place) true 0))
+    (done l c (driveOf d) st (next l) (movedPast (driveOf d) (x .place) true n))
 
 -- the count area that comes next, with the index passes up to it; or no search finds a record
 abbrev pub Comes : List ℕ → Drive → Coming → Type 0

@@ -65,6 +65,7 @@ searchPlan l c d st Passed = refuse l c d st notFound
 abbrev pub Examines : List ℕ → Drive → List ℕ → Examined → Type 0
 Examines image d g r = (l : Location) (c : Ccw) (st : List ℕ) → planSearch l c (driveOf d) st (packOf image) g ≡ searchPlan l c (driveOf d) st r
 
+-- behind a search that examined a count area the drive stands in the image
 abbrev pub ExaminedStands : List ℕ → Examined → Type 0
 ExaminedStands image (Equal e) = Standing image e
 ExaminedStands image (Unequal e) = Standing image e

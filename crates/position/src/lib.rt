@@ -179,7 +179,7 @@ impl Drive {
         requires { ⌜ Standing (now image) self ⌝ }
         requires { ⌜ Spots (now image) self x ⌝ }
         requires { ⌜ passes ≤ 1 ⌝ }
-        ensures { λ r. ⌜ driveOf r ≡ Abstract.behind (driveOf self) (x .place) passed passes ⌝ }
+        ensures { λ r. ⌜ driveOf r ≡ Abstract.movedPast (driveOf self) (x .place) passed passes ⌝ }
         ensures { λ r. ⌜ Standing (now (image .entry)) r ⌝ }
     {
         let at = self.at;

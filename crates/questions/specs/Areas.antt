@@ -15,6 +15,7 @@ argumentsFit n = leb n 4096
 abbrev pub storageFits : ℕ → Bool
 storageFits n = leb n 65536
 
+-- "fault list, up to 65,536"
 abbrev pub faultsFit : ℕ → Bool
 faultsFit n = leb n 65536
 
@@ -33,6 +34,10 @@ restartArgumentsFit n = eqb n 16
 -- "The chain's command limit is 1 to 4,096"
 unfoldable pub limitFits : ℕ → Bool
 limitFits n = leb 1 n && leb n 4096
+
+-- "a restarted run has 8,192"
+abbrev pub restartLimit : ℕ
+restartLimit = 8192
 
 -- the areas and the limit that a run is lent
 unfoldable pub runAreas : (chain arguments storage image faults limit : ℕ) → Bool

@@ -5,6 +5,7 @@ use Rattle.questions.specs.declared.Question.the-variants.{Areas, Image,
 use Rattle.questions.specs.declared.Checked.{Checked}
 use Rattle.questions.specs.declared.Checked.the-variants.{Accepted, Refused}
 
+-- "A no answers its number and changes nothing."
 abbrev pub numberOf : Question → ℕ
 -- "Are all areas and limits as above?"
 numberOf Areas = 1
@@ -24,6 +25,14 @@ numberOf Action = 7
 numberOf Format = 8
 -- "Do report and chain agree"
 numberOf Agreement = 9
+
+-- What a run or a reading returns as "limit", and a reading as "stopped": 1 to 63 are questions.
+abbrev pub limitReturn : ℕ
+limitReturn = 64
+
+-- a reading's "stopped"; the number that stopped it stands in the answer area
+abbrev pub stoppedReturn : ℕ
+stoppedReturn = 65
 
 -- A check's answer as a number: 0 accepted, else the refusing question's.
 abbrev pub answerOf : Checked → ℕ

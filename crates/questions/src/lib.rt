@@ -16,6 +16,14 @@ pub enum Question {
     Agreement,
 }
 
+// The command limit of a restarted run.
+pub const RESTART_LIMIT: usize = 8192;
+
+// What a run or a reading returns as "limit", and a reading as "stopped": 1 to 63 are questions.
+pub const LIMIT: u8 = 64;
+
+pub const STOPPED: u8 = 65;
+
 // What a check answers.
 pub enum Checked {
     Accepted,
@@ -136,11 +144,11 @@ pub fn run_areas(
 }
 
 // Question 1 for the two restart areas' lengths.
-pub fn restart_areas(program: usize, arguments: usize) -> bool
-    ensures { λ r. ⌜ r ≡ Areas.restartAreas program arguments ⌝ }
+pub fn restart_areas(program: usize, restart_arguments: usize) -> bool
+    ensures { λ r. ⌜ r ≡ Areas.restartAreas program «restart_arguments» ⌝ }
 {
     if !program_fits(program) {
         return false;
     }
-    restart_arguments_fit(arguments)
+    restart_arguments_fit(restart_arguments)
 }

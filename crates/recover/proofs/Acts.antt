@@ -3,30 +3,31 @@
 --   no-row, row-chosen         whether a row of the error table fits
 use Prim.Native.Nat.{ℕ}
 use mathlib.Core.Path.{_≡_, refl, ap, sym, _∙_}
-use mathlib.Core.Bool.{Bool, true, false}
 use mathlib.Core.Option.{Option, none, some}
 use mathlib.Core.List.{List}
-use lib.Dec.{eqb, ltb}
+use lib.Dec.{ltb}
 use lib.ListN.{getD}
 use borrow.Author.Tests.{ne-eqb}
 use Rattle.base.specs.Choice.{pick, opt}
 use Rattle.base.proofs.Choice.{split, pick-true, pick-false}
 use Rattle.questions.specs.declared.Question.the-variants as Question
 use Rattle.address.specs.declared.Extent.{Extent}
+use Rattle.address.specs.Order.{lastCylinder}
 use Rattle.channel.specs.declared.Csw.{Csw}
 use Rattle.drive.specs.declared.FileMask.{FileMask}
 use Rattle.recovery.specs.Table.{rows, actionFor}
 use Rattle.recovery.specs.Report.{Report}
 use Rattle.recovery.specs.Recovery as Recovery
 use Rattle.recovery.specs.Recovery.{Given}
-use Rattle.table.specs.declared.Chosen.{Chosen}
-use Rattle.table.specs.declared.Chosen.the-variants.{Action, NoRow}
-use Rattle.table.specs.Table.{Chooses}
-use Rattle.action.specs.declared.Recovered.{Recovered}
-use Rattle.action.specs.declared.Recovered.the-variants.{Refused, ActionOne, ActionTwo}
-use Rattle.action.specs.Applied.{Applied, with, applied, givenOf, reportWith, Acts}
-use Rattle.home.specs.declared.User.{User}
-use Rattle.home.specs.User.{userIn, userOf, ActsUser}
+use Rattle.error_table.specs.declared.Chosen.{Chosen}
+use Rattle.error_table.specs.declared.Chosen.the-variants.{Action, NoRow}
+use Rattle.error_table.specs.Table.{Chooses}
+use Rattle.recovered.specs.declared.Recovered.{Recovered}
+use Rattle.recovered.specs.declared.Recovered.the-variants.{Refused, ActionOne, ActionTwo}
+use Rattle.recovered.specs.Applied.{Applied, with, applied, givenOf, reportWith}
+use Rattle.action_five.specs.Five.{Acts}
+use Rattle.action_eight_ten.specs.declared.User.{User}
+use Rattle.action_eight_ten.specs.User.{userOf, ActsUser}
 use Rattle.recover.specs.Recover.{ActsBy, Recovers, triedOf}
 
 module _ (chain sense : List ℕ) (csw : Csw) (first : ℕ) (mask : FileMask) (tries : ℕ) (x : Extent) (user : User) (st p a : List ℕ) where
@@ -35,7 +36,7 @@ module _ (chain sense : List ℕ) (csw : Csw) (first : ℕ) (mask : FileMask) (t
 
   -- from the code 's action
   by-code : (k n : ℕ) (f : Given → Report → List ℕ → Recovery.Recovery) (out : Applied) → k ≡ n → ((g : Given) (r : Report) → Recovery.act g r st n ≡ f g r st)
-      → ((seek : Option (List ℕ)) → userIn seek ≡ userOf user → out ≡ applied (f (givenOf rows chain x) (reportWith sense csw first mask seek tries) st) st p a)
+      → ((seek : Option (List ℕ)) → Recovery.userTrack lastCylinder seek ≡ userOf user → out ≡ applied (f (givenOf rows chain x) (reportWith sense csw first mask seek tries) st) st p a)
       → By k out
   by-code k n f out e h q = λ seek u.
       q seek u

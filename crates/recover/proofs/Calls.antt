@@ -3,10 +3,9 @@
 --   areas-say                     what it says of the areas
 --   wrong-areas .. answers        the questions in order
 use Prim.Native.Nat.{ℕ, _≤_}
-use native.Mathlib.Omega.{arith}
-use mathlib.Core.Path.{_≡_, refl, ap, sym, _∙_}
-use mathlib.Core.Bool.{Bool, true, false, _&&_}
-use mathlib.Core.Option.{Option, none, some}
+use mathlib.Core.Path.{_≡_, ap, sym, _∙_}
+use mathlib.Core.Bool.{true, false, _&&_}
+use mathlib.Core.Option.{none, some}
 use mathlib.Core.List.{List}
 use lib.Dec.{eqb, leb}
 use lib.ListN.{length}
@@ -26,50 +25,50 @@ use Rattle.report.specs.declared.Report as Code
 use Rattle.report.specs.declared.Reported.{Reported}
 use Rattle.report.specs.declared.Reported.the-variants.{Well, Ill}
 use Rattle.report.specs.Reported.{reportOf, reportedOf, seekOf}
-use Rattle.action.specs.declared.Recovered.the-variants.{Refused}
-use Rattle.action.specs.Applied.{Applied, with, applied, givenOf}
-use Rattle.home.specs.declared.User.{User}
-use Rattle.home.specs.User.{userIn, userOf}
+use Rattle.recovered.specs.declared.Recovered.the-variants.{Refused}
+use Rattle.recovered.specs.Applied.{Applied, with, applied, givenOf}
+use Rattle.action_eight_ten.specs.declared.User.{User}
+use Rattle.action_eight_ten.specs.User.{userOf}
 use Rattle.recover.specs.Recover.{refusal, recoverAreas, recoverCall, Recovers}
 
 -- ---- question 1
 
-module _ (chain storage program arguments extent : ℕ) where
-  pub chain-not : chainFits chain ≡ false → false ≡ recoverAreas chain storage program arguments extent
+module _ (chain storage program restartArguments extent : ℕ) where
+  pub chain-not : chainFits chain ≡ false → false ≡ recoverAreas chain storage program restartArguments extent
   unfolding recoverAreas
   chain-not e = rw e
 
   module _ (e : chainFits chain ≡ true) where
-    pub storage-not : storageFits storage ≡ false → false ≡ recoverAreas chain storage program arguments extent
+    pub storage-not : storageFits storage ≡ false → false ≡ recoverAreas chain storage program restartArguments extent
     unfolding recoverAreas
     storage-not f = rw (e, f)
 
     module _ (f : storageFits storage ≡ true) where
-      pub restart-not : restartAreas program arguments ≡ false → false ≡ recoverAreas chain storage program arguments extent
+      pub restart-not : restartAreas program restartArguments ≡ false → false ≡ recoverAreas chain storage program restartArguments extent
       unfolding recoverAreas
       restart-not g = rw (e, f, g)
 
-      pub extent-left : restartAreas program arguments ≡ true → eqb extent 8 ≡ recoverAreas chain storage program arguments extent
+      pub extent-left : restartAreas program restartArguments ≡ true → eqb extent 8 ≡ recoverAreas chain storage program restartArguments extent
       unfolding recoverAreas
       extent-left g = rw (e, f, g)
 
   pub record Fitting : Type 0 where
     pub chain-short : chain ≤ 2048
     pub program-full : program ≡ 64
-    pub arguments-full : arguments ≡ 16
+    pub restart-arguments-full : restartArguments ≡ 16
     pub extent-full : extent ≡ 8
 
-  pub areas-say : recoverAreas chain storage program arguments extent ≡ true → Fitting
+  pub areas-say : recoverAreas chain storage program restartArguments extent ≡ true → Fitting
   unfolding recoverAreas restartAreas chainFits
   areas-say h =
-      let three = and-left (chainFits chain && storageFits storage && restartAreas program arguments) (eqb extent 8) h in
-      let restart = and-right (chainFits chain && storageFits storage) (restartAreas program arguments) three in
-      let first = and-left (chainFits chain) (storageFits storage) (and-left (chainFits chain && storageFits storage) (restartAreas program arguments) three) in
+      let three = and-left (chainFits chain && storageFits storage && restartAreas program restartArguments) (eqb extent 8) h in
+      let restart = and-right (chainFits chain && storageFits storage) (restartAreas program restartArguments) three in
+      let first = and-left (chainFits chain) (storageFits storage) (and-left (chainFits chain && storageFits storage) (restartAreas program restartArguments) three) in
       record {
         chain-short = leb-true _ _ (and-right (leb 8 chain) (leb chain 2048) (and-left (leb 8 chain && leb chain 2048) _ first));
-        program-full = eqb-true _ _ (and-left (programFits program) (restartArgumentsFit arguments) restart);
-        arguments-full = eqb-true _ _ (and-right (programFits program) (restartArgumentsFit arguments) restart);
-        extent-full = eqb-true _ _ (and-right (chainFits chain && storageFits storage && restartAreas program arguments) (eqb extent 8) h);
+        program-full = eqb-true _ _ (and-left (programFits program) (restartArgumentsFit restartArguments) restart);
+        restart-arguments-full = eqb-true _ _ (and-right (programFits program) (restartArgumentsFit restartArguments) restart);
+        extent-full = eqb-true _ _ (and-right (chainFits chain && storageFits storage && restartAreas program restartArguments) (eqb extent 8) h);
       }
 
 -- ---- the questions in order
@@ -100,7 +99,7 @@ module _ (chain report extent st p a : List ℕ) where
         unfolding refusal
         off-pack g = after-report _ (sym (pick-false _ _ (ap (soundExtent lastCylinder) (sym i) ∙ g)))
 
-        pub answers : (user : User) (out : Applied) → soundExtent lastCylinder x ≡ true → userOf user ≡ userIn (seekOf report (w .seek))
+        pub answers : (user : User) (out : Applied) → soundExtent lastCylinder x ≡ true → userOf user ≡ Recovery.userTrack lastCylinder (seekOf report (w .seek))
             → Recovers chain (part report 3 27) (w .csw) (w .first) (w .mask) (w .tries) x user st p a out → out ≡ recoverCall chain report extent st p a
         answers user out g u k =
             after-report out

@@ -16,12 +16,12 @@ use Rattle.channel.specs.declared.Location.{Location}
 use Rattle.channel.specs.declared.Location.the-variants.{Chain, Restart}
 use Rattle.channel.specs.declared.Fetched.{Fetched}
 use Rattle.channel.specs.declared.Fetched.the-variants.{Got, Broken}
-use Rattle.channel.specs.Walk.{Walk, walked, stopped}
-use Rattle.command.specs.Answer.{CswLow}
+use Rattle.channel.specs.Walk.{Walk, walked, checked}
+use Rattle.location.specs.Low.{CswLow}
 use Rattle.recovery.specs.Report.{Report}
 use Rattle.recovery.specs.Recovery as Recovery
 use Rattle.recovery.specs.Recovery.{Given}
-use Rattle.action.specs.Applied.{Applied, applied, RecoveredLow}
+use Rattle.recovered.specs.Applied.{Applied, applied, RecoveredLow}
 
 abbrev FinishLow : Recovery.Recovery → Type 0
 FinishLow (Recovery.refused q) = Unit {0}
@@ -51,7 +51,7 @@ module _ (g : Given) (r : Report) (st : List ℕ) where
 
     walked-low : (w : Walk) → FinishLow (Recovery.walkedTo g r st w)
     unfolding Recovery.walkedTo
-    walked-low (stopped ps l) = tt
+    walked-low (checked ps l) = tt
     walked-low (walked ps l c left over) = both FinishLow _ (after-walk-low ps l c _) tt
 
     five-low : FinishLow (Recovery.actionFive g r st)
@@ -71,7 +71,7 @@ module _ (g : Given) (r : Report) (st : List ℕ) where
   eight-low = track-low _ (λ a c. home-low _ _ _)
 
   ten-low : FinishLow (Recovery.actionTen g r st)
-  unfolding Recovery.actionTen
+  unfolding Recovery.actionTen Recovery.seekRestart
   ten-low = track-low _ (λ a c. both FinishLow _ (both FinishLow _ (next-low _ _ _ (λ to d. home-low _ _ _)) tt) (home-low _ _ _))
 
   tried-low : (n : ℕ) → FinishLow (Recovery.tried g r st n)

@@ -1,16 +1,16 @@
 // Recovery from one report.
-use action::Recovered;
+use action_eight_ten::User;
 use address::Extent;
 use channel::Csw;
 use drive::FileMask;
-use home::User;
+use error_table::Chosen;
 use questions::Question;
+use recovered::Recovered;
 use report::Reported;
 use report::Seek;
-use table::Chosen;
 ghost use mathlib.Core.Path.{_≡_};
-ghost use Rattle.action.specs.Applied.{with, RecoveredLow};
-ghost use Rattle.home.specs.User.{UserOnPack};
+ghost use Rattle.recovered.specs.Applied.{with, RecoveredLow};
+ghost use Rattle.action_eight_ten.specs.User.{UserOnPack};
 ghost use Rattle.recover.specs.Recover.{recoverCall, Told, ActsBy, Recovers, triedOf, recoverAreas, UserOf};
 ghost use Rattle.report.specs.Reported.{SeekInside};
 
@@ -30,7 +30,7 @@ fn act(
     chain: &[u8],
     storage: &mut [u8],
     program: &mut [u8],
-    arguments: &mut [u8],
+    restart_arguments: &mut [u8],
     sense: &[u8],
     csw: Csw,
     first: usize,
@@ -39,8 +39,11 @@ fn act(
     x: Extent,
     user: User,
 ) -> Recovered
-    requires { ⌜ Told (now chain) (now sense) (now program) (now arguments) csw user ⌝ }
-    ensures { λ r. ⌜ ActsBy k (now (chain .entry)) (now (sense .entry)) csw first mask tries x user (now (storage .entry)) (now (program .entry)) (now (arguments .entry)) (with r (now (storage .exit)) (now (program .exit)) (now (arguments .exit))) ⌝ }
+    requires { ⌜ Told (now chain) (now sense) (now program) (now «restart_arguments») csw user ⌝ }
+    ensures { λ r.
+        let after = with r (now (storage .exit)) (now (program .exit)) (now («restart_arguments» .exit)) in
+        ⌜ ActsBy k (now (chain .entry)) (now (sense .entry)) csw first mask tries x user
+        (now (storage .entry)) (now (program .entry)) (now («restart_arguments» .entry)) after ⌝ }
 {
     if k == 1 {
         return Recovered::ActionOne;
@@ -55,11 +58,11 @@ fn act(
         return tried(tries, 10);
     }
     if k == 5 {
-        return action::five(
+        return action_five::five(
             chain,
             storage,
             program,
-            arguments,
+            restart_arguments,
             sense,
             csw,
             first,
@@ -68,10 +71,10 @@ fn act(
         );
     }
     if k == 8 {
-        return home::eight(chain, program, arguments, csw, mask, x, user);
+        return action_eight_ten::eight(chain, program, restart_arguments, csw, mask, x, user);
     }
     if k == 10 {
-        return home::ten(chain, program, arguments, csw, mask, x, user);
+        return action_eight_ten::ten(chain, program, restart_arguments, csw, mask, x, user);
     }
     Recovered::Refused(Question::Action)
 }
@@ -81,7 +84,7 @@ pub fn recover_from(
     chain: &[u8],
     storage: &mut [u8],
     program: &mut [u8],
-    arguments: &mut [u8],
+    restart_arguments: &mut [u8],
     sense: &[u8],
     csw: Csw,
     first: usize,
@@ -90,17 +93,20 @@ pub fn recover_from(
     x: Extent,
     user: User,
 ) -> Recovered
-    requires { ⌜ Told (now chain) (now sense) (now program) (now arguments) csw user ⌝ }
-    ensures { λ r. ⌜ Recovers (now (chain .entry)) (now (sense .entry)) csw first mask tries x user (now (storage .entry)) (now (program .entry)) (now (arguments .entry)) (with r (now (storage .exit)) (now (program .exit)) (now (arguments .exit))) ⌝ }
+    requires { ⌜ Told (now chain) (now sense) (now program) (now «restart_arguments») csw user ⌝ }
+    ensures { λ r.
+        let after = with r (now (storage .exit)) (now (program .exit)) (now («restart_arguments» .exit)) in
+        ⌜ Recovers (now (chain .entry)) (now (sense .entry)) csw first mask tries x user
+        (now (storage .entry)) (now (program .entry)) (now («restart_arguments» .entry)) after ⌝ }
 {
-    match table::action_for(sense[0], sense[1], sense[2]) {
+    match error_table::action_for(sense[0], sense[1], sense[2]) {
         Chosen::NoRow => Recovered::Refused(Question::Row),
         Chosen::Action(k) => act(
             k,
             chain,
             storage,
             program,
-            arguments,
+            restart_arguments,
             sense,
             csw,
             first,
@@ -119,14 +125,20 @@ fn user_of(report: &[u8], seek: Seek) -> User
     ensures { λ r. ⌜ UserOnPack r ⌝ }
 {
     match seek {
-        Seek::At(a) => home::user_track(report, a),
+        Seek::At(a) => action_eight_ten::user_track(report, a),
         Seek::Absent => User::Missing,
     }
 }
 
 // Question 1, from the lengths of the areas.
-fn areas_fit(chain: usize, storage: usize, program: usize, arguments: usize, extent: usize) -> bool
-    ensures { λ r. ⌜ r ≡ recoverAreas chain storage program arguments extent ⌝ }
+fn areas_fit(
+    chain: usize,
+    storage: usize,
+    program: usize,
+    restart_arguments: usize,
+    extent: usize,
+) -> bool
+    ensures { λ r. ⌜ r ≡ recoverAreas chain storage program «restart_arguments» extent ⌝ }
 {
     if !questions::chain_fits(chain) {
         return false;
@@ -134,7 +146,7 @@ fn areas_fit(chain: usize, storage: usize, program: usize, arguments: usize, ext
     if !questions::storage_fits(storage) {
         return false;
     }
-    if !questions::restart_areas(program, arguments) {
+    if !questions::restart_areas(program, restart_arguments) {
         return false;
     }
     extent == 8
@@ -147,16 +159,19 @@ pub fn recover(
     extent: &[u8],
     storage: &mut [u8],
     program: &mut [u8],
-    arguments: &mut [u8],
+    restart_arguments: &mut [u8],
 ) -> Recovered
-    ensures { λ r. ⌜ with r (now (storage .exit)) (now (program .exit)) (now (arguments .exit)) ≡ recoverCall (now (chain .entry)) (now (report .entry)) (now (extent .entry)) (now (storage .entry)) (now (program .entry)) (now (arguments .entry)) ⌝ }
+    ensures { λ r.
+        let after = with r (now (storage .exit)) (now (program .exit)) (now («restart_arguments» .exit)) in
+        ⌜ after ≡ recoverCall (now (chain .entry)) (now (report .entry)) (now (extent .entry))
+        (now (storage .entry)) (now (program .entry)) (now («restart_arguments» .entry)) ⌝ }
     ensures { λ r. ⌜ RecoveredLow r ⌝ }
 {
     if !areas_fit(
         chain.len(),
         storage.len(),
         program.len(),
-        arguments.len(),
+        restart_arguments.len(),
         extent.len(),
     ) {
         return Recovered::Refused(Question::Areas);
@@ -176,7 +191,7 @@ pub fn recover(
         chain,
         storage,
         program,
-        arguments,
+        restart_arguments,
         &report[3..27],
         csw,
         r.first,

@@ -13,6 +13,7 @@ unfoldable pub mend : Option ℕ → ℕ → List ℕ → List ℕ
 mend none x st = st
 mend (some a) x st = set st a (bitXor (getD st a 0) x)
 
+-- whether two bytes of a read go to one storage address; a skipped byte goes to none
 unfoldable pub samePlace : Option ℕ → Option ℕ → Bool
 samePlace none none = false
 samePlace none (some b) = false

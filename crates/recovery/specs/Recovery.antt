@@ -2,7 +2,7 @@
 use Prim.Native.Nat.{ℕ, _+_, _-_}
 use mathlib.Core.Bool.{Bool, true, false, _&&_, _||_, not}
 use mathlib.Core.Option.{Option, none, some}
-use mathlib.Core.List.{List, [], _∷_, _++_}
+use mathlib.Core.List.{List, []}
 use lib.Dec.{eqb, ltb, leb}
 use lib.ListN.{length, getD}
 use Rattle.base.specs.Choice.{pick, opt}
@@ -21,14 +21,15 @@ use Rattle.channel.specs.declared.Fetched.{Fetched}
 use Rattle.channel.specs.declared.Fetched.the-variants.{Got, Broken}
 use Rattle.channel.specs.declared.Csw.{Csw}
 use Rattle.channel.specs.Ccw.{Lent, chainsCommand, isTic, addressOf, next, fetchIn, resolve}
-use Rattle.channel.specs.Walk.{Walk, walked, stopped, walk, readable, incorrectLength}
+use Rattle.channel.specs.Csw.{unitCheck}
+use Rattle.channel.specs.Walk.{Walk, walked, checked, walk, readable, incorrectLength}
 use Rattle.drive.specs.declared.Command.{Command}
 use Rattle.drive.specs.declared.Command.the-variants.{NoOperation, Seek, SetMask, SetSector, SearchId, ReadHome, ReadRecord, Unlisted}
 use Rattle.drive.specs.declared.FileMask.{FileMask}
 use Rattle.drive.specs.declared.FileMask.the-variants.{Unset, Set}
 use Rattle.drive.specs.Command.{commandOf}
 use Rattle.drive.specs.Step.{sought, spread}
-use Rattle.restart.specs.Restart.{ccwBytes, programOf, searchProgram, argumentsOf, searchArguments}
+use Rattle.restart.specs.Restart.{ccwBytes, programOf, searchProgram, restartArgumentsOf, searchArguments}
 use Rattle.recovery.specs.Table.{Row, actionFor}
 use Rattle.recovery.specs.Report.{Report}
 use Rattle.recovery.specs.Correct.{corrected}
@@ -88,19 +89,57 @@ fetchMode (Set m) = bitOn 7 m
 
 -- "incorrect length or no CC, finished with the CSW less unit check"
 unfoldable pub lessUnitCheck : Csw → Csw
-lessUnitCheck w = record { address = w .address; unit = w .unit - pick (bitOn 6 (w .unit)) 2 0; channel = w .channel; count = w .count }
+lessUnitCheck w = record { address = w .address; unit = w .unit - pick (bitOn 6 (w .unit)) unitCheck 0; channel = w .channel; count = w .count }
 
 -- two tests that came out alike
 unfoldable pub alike : Bool → Bool → Bool
 alike true b = b
 alike false b = not b
 
+-- ---- what the sense bytes of action 5 say
+
+-- of the sense bytes "15 to 17 restart displacement"
+abbrev pub restartDisplacement : (sense : List ℕ) → ℕ
+restartDisplacement sense = be24At sense 15
+
+-- of the sense bytes "18 and 19 error displacement"
+abbrev pub errorDisplacement : (sense : List ℕ) → ℕ
+errorDisplacement sense = be16At sense 18
+
+-- "Pattern byte i .. belongs to byte restart minus error displacement plus i of the read": the first byte of the pattern
+abbrev pub patternFrom : (sense : List ℕ) → ℕ
+patternFrom sense = restartDisplacement sense - errorDisplacement sense
+
+-- "error displacement not 0, restart displacement at most 13,038 and not below it, sector under 128"
+unfoldable pub sensible : (sense : List ℕ) → Bool
+sensible sense =
+    not (eqb (errorDisplacement sense) 0) && leb (restartDisplacement sense) 13038 && leb (errorDisplacement sense) (restartDisplacement sense)
+    && ltb (getD sense 13 0) 128
+
+-- "Pattern byte i below the error displacement belongs to byte restart minus error displacement plus i of the read.", for the places ps of
+-- that read
+unfoldable pub correction : (sense : List ℕ) → List (Option ℕ) → List ℕ → List ℕ
+correction sense ps st = corrected ps (spread (restartDisplacement sense) (patternFrom sense) (part sense 20 23)) st
+
+-- the track of "sense 8 to 11"
+abbrev pub cutTrack : (sense : List ℕ) → Address
+cutTrack sense = record { cylinder = be16At sense 8; head = be16At sense 10 }
+
+-- "that ends at the CSW's CCW, count and incorrect length"
+unfoldable pub agrees : Csw → Location → ℕ → Bool → Bool
+agrees w l left wrong = eqb (w .address) (addressOf l + 8) && eqb (w .count) left && alike (bitOn 1 (w .channel)) wrong
+
 -- ---- tracks and seeks of 8, 10 and 10A
+
+-- "cylinder plus 1, head 0"
+abbrev pub nextCylinder : Address → Address
+nextCylinder a = record { cylinder = a .cylinder + 1; head = 0 }
 
 -- "the argument's track plus 1 (head 18 carries)"
 unfoldable pub nextTrack : Address → Address
-nextTrack a = pick (eqb (a .head) 18) (record { cylinder = a .cylinder + 1; head = 0 }) (record { cylinder = a .cylinder; head = a .head + 1 })
+nextTrack a = pick (eqb (a .head) 18) (nextCylinder a) (record { cylinder = a .cylinder; head = a .head + 1 })
 
+-- "If that CCW is a seek"
 unfoldable pub isSeek : Command → Bool
 isSeek Seek = true
 isSeek NoOperation = false
@@ -111,69 +150,50 @@ isSeek ReadHome = false
 isSeek Unlisted = false
 isSeek (ReadRecord k) = false
 
+-- "tag 14 present with first two bytes 0, cylinder and head on the pack", of a pack with this last cylinder
+unfoldable pub userTrack : (last : ℕ) → Option (List ℕ) → Option Address
+userTrack last seek = opt seek none (λ s. pick (eqb (be16At s 0) 0 && onPack last (sought s)) (some (sought s)) none)
+
 module _ (g : Given) (r : Report) (st : List ℕ) where
   -- ---- action 5
 
-  -- "sense 15 to 17 restart displacement, 18 and 19 error displacement"
-  unfoldable pub restartDisplacement : ℕ
-  restartDisplacement = be24At (r .sense) 15
-
-  unfoldable pub errorDisplacement : ℕ
-  errorDisplacement = be16At (r .sense) 18
-
-  -- "error displacement not 0, restart displacement at most 13,038 and not below it, sector under 128"
-  unfoldable pub sensible : Bool
-  sensible =
-      not (eqb errorDisplacement 0) && leb restartDisplacement 13038 && leb errorDisplacement restartDisplacement && ltb (getD (r .sense) 13 0) 128
-
   -- the walk of the restart displacement's bytes from the read's first CCW, which is c
-  unfoldable pub rewalk : Ccw → Walk
-  rewalk c =
+  unfoldable pub retrace : Ccw → Walk
+  retrace c =
       pick (readable (length st) c)
-      (walk (onlyChain (g .chain)) (length st) restartDisplacement (Chain (r .first)) c (c .count) (c .address))
-      (stopped [] (Chain (r .first)))
-
-  -- "that ends at the CSW's CCW, count and incorrect length"
-  unfoldable pub agrees : Location → ℕ → Bool → Bool
-  agrees l left wrong =
-      eqb (r .csw .address) (addressOf l + 8) && eqb (r .csw .count) left && alike (bitOn 1 (r .csw .channel)) wrong
-
-  -- "Pattern byte i below the error displacement belongs to byte restart minus error displacement plus i of the read."
-  unfoldable pub correction : List (Option ℕ) → List ℕ
-  correction ps = corrected ps (spread restartDisplacement (restartDisplacement - errorDisplacement) (part (r .sense) 20 23)) st
-
-  -- the track of "sense 8 to 11"
-  unfoldable pub cutTrack : Address
-  cutTrack = record { cylinder = be16At (r .sense) 8; head = be16At (r .sense) 10 }
+      (walk (onlyChain (g .chain)) (length st) (restartDisplacement (r .sense)) (Chain (r .first)) c (c .count) (c .address))
+      (checked [] (Chain (r .first)))
 
   -- "seek (00 00, sense 8 to 11), mask .., sector from sense 13, search ID (sense 8 to 12), TIC to that search, then TIC to the user's
   -- next non-TIC CCW. If that CCW's command has bit 3 off (5A), a read count .. stands before the last TIC."
-  unfoldable pub searchRestart : List ℕ → ℕ → Ccw → Recovery
-  searchRestart storage to c =
-      restarts (pick (bitOn 3 (c .command)) five fiveA)
+  unfoldable pub searchRestart : List (Option ℕ) → ℕ → Ccw → Recovery
+  searchRestart ps to c =
+      pick (seekAllowed g (cutTrack (r .sense)))
+      (restarts (pick (bitOn 3 (c .command)) five fiveA)
       (searchProgram (r .mask) (not (bitOn 3 (c .command))) to)
-      (searchArguments cutTrack (r .mask) (getD (r .sense) 13 0) (getD (r .sense) 12 0))
-      storage
+      (searchArguments (cutTrack (r .sense)) (r .mask) (getD (r .sense) 13 0) (getD (r .sense) 12 0))
+      (correction (r .sense) ps st))
+      actionTwo
 
-  -- "Then: mask bit 7 on, corrected only; incorrect length or no CC, finished ..; else restart"
+  -- "Then: mask bit 7 .. on, corrected only; incorrect length or no CC, finished ..; else restart"
   unfoldable pub afterWalk : List (Option ℕ) → Location → Ccw → Bool → Recovery
   afterWalk ps l c wrong =
-      pick (fetchMode (r .mask)) (correctedOnly (correction ps))
-      (pick (wrong || not (chainsCommand c)) (finished (lessUnitCheck (r .csw)) (correction ps))
-      (onNext (resolve (onlyChain (g .chain)) l (next l)) (refused Question.Agreement)
-      (λ to d. pick (seekAllowed g cutTrack) (searchRestart (correction ps) to d) actionTwo)))
+      pick (fetchMode (r .mask)) (correctedOnly (correction (r .sense) ps st))
+      (pick (wrong || not (chainsCommand c)) (finished (lessUnitCheck (r .csw)) (correction (r .sense) ps st))
+      (onNext (resolve (onlyChain (g .chain)) l (next l)) (refused Question.Agreement) (searchRestart ps)))
 
+  -- "a walk without program check that ends at the CSW's CCW, count and incorrect length"
   unfoldable pub walkedTo : Walk → Recovery
-  walkedTo (stopped ps l) = refused Question.Agreement
+  walkedTo (checked ps l) = refused Question.Agreement
   walkedTo (walked ps l c left over) =
-      pick (agrees l left (incorrectLength c left over)) (afterWalk ps l c (incorrectLength c left over)) (refused Question.Agreement)
+      pick (agrees (r .csw) l left (incorrectLength c left over)) (afterWalk ps l c (incorrectLength c left over)) (refused Question.Agreement)
 
   -- "For 5: is sense 7 = 53?", then "Do report and chain agree"
   unfoldable pub actionFive : Recovery
   actionFive =
       pick (eqb (getD (r .sense) 7 0) 0x53)
       (opt (fetchIn (g .chain) (r .first)) (refused Question.Agreement)
-      (λ c. pick (readsData (commandOf (c .command)) && sensible) (walkedTo (rewalk c)) (refused Question.Agreement)))
+      (λ c. pick (readsData (commandOf (c .command)) && sensible (r .sense)) (walkedTo (retrace c)) (refused Question.Agreement)))
       (refused Question.Format)
 
   -- ---- actions 8, 10 and 10A
@@ -182,36 +202,34 @@ module _ (g : Given) (r : Report) (st : List ℕ) where
   unfoldable pub homeRestart : Kind → Address → ℕ → Recovery
   homeRestart k a to =
       pick (seekAllowed g a)
-      (restarts k (programOf (r .mask) (ccwBytes 0x1a 0 0x50 5) to) (argumentsOf a (r .mask) 0 []) st)
+      (restarts k (programOf (r .mask) (ccwBytes 0x1a 0 0x50 5) to) (restartArgumentsOf a (r .mask) 0 []) st)
       actionTwo
 
   -- "The interrupted CCW is the one 8 below the CSW's address": "the interrupted CCW in the chain and no TIC"
   unfoldable pub interrupted : Option Ccw
   interrupted = pick (leb 8 (r .csw .address)) (opt (fetchIn (g .chain) (r .csw .address - 8)) none (λ c. pick (isTic c) none (some c))) none
 
-  -- "tag 14 present with first two bytes 0, cylinder and head on the pack"
-  unfoldable pub userTrack : Option Address
-  userTrack = opt (r .seek) none (λ s. pick (eqb (be16At s 0) 0 && onPack (g .last) (sought s)) (some (sought s)) none)
-
   -- with both, or 9
   unfoldable pub withTrack : (Address → Ccw → Recovery) → Recovery
-  withTrack f = opt userTrack (refused Question.Agreement) (λ a. opt interrupted (refused Question.Agreement) (f a))
+  withTrack f = opt (userTrack (g .last) (r .seek)) (refused Question.Agreement) (λ a. opt interrupted (refused Question.Agreement) (f a))
 
   -- "Seek argument with cylinder plus 1, head 0; .. TIC to the interrupted CCW"
   unfoldable pub actionEight : Recovery
-  actionEight = withTrack (λ a c. homeRestart eight (record { cylinder = a .cylinder + 1; head = 0 }) (r .csw .address - 8))
+  actionEight = withTrack (λ a c. homeRestart eight (nextCylinder a) (r .csw .address - 8))
 
-  -- "If that CCW is a seek: the same with the user's argument, TIC to the next non-TIC CCW. Otherwise 10A: the argument's track plus 1
-  -- .., TIC to the interrupted CCW."; "if it is a seek in 10, CC on and a next CCW (not TIC to TIC)"
+  -- "If that CCW is a seek: the same with the user's argument, TIC to the next non-TIC CCW."; "if it is a seek in 10, CC on and a next CCW
+  -- (not TIC to TIC)"
+  unfoldable pub seekRestart : Address → Ccw → Recovery
+  seekRestart a c =
+      pick (chainsCommand c)
+      (onNext (resolve (onlyChain (g .chain)) (Chain (r .csw .address - 8)) (Chain (r .csw .address))) (refused Question.Agreement) (λ to d. homeRestart ten a to))
+      (refused Question.Agreement)
+
+  -- "Otherwise 10A: the argument's track plus 1 .., TIC to the interrupted CCW."
   unfoldable pub actionTen : Recovery
   actionTen =
       withTrack
-      (λ a c.
-      pick (isSeek (commandOf (c .command)))
-      (pick (chainsCommand c)
-      (onNext (resolve (onlyChain (g .chain)) (Chain (r .csw .address - 8)) (Chain (r .csw .address))) (refused Question.Agreement) (λ to d. homeRestart ten a to))
-      (refused Question.Agreement))
-      (homeRestart tenA (nextTrack a) (r .csw .address - 8)))
+      (λ a c. pick (isSeek (commandOf (c .command))) (seekRestart a c) (homeRestart tenA (nextTrack a) (r .csw .address - 8)))
 
   -- ---- the action
 

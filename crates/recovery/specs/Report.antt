@@ -13,6 +13,7 @@ use Rattle.drive.specs.declared.FileMask.{FileMask}
 use Rattle.drive.specs.declared.FileMask.the-variants.{Unset, Set}
 use Rattle.drive.specs.Step.{settable}
 
+-- What the fields of a report say; sense has 24 bytes, the seek argument 6.
 pub record Report : Type 0 where
   pub sense : List ℕ
   pub csw : Csw
@@ -29,10 +30,11 @@ pub record Report : Type 0 where
 unfoldable pub cswFrom : List ℕ → Csw
 cswFrom s = record { address = be24At s 1; unit = getD s 4 0; channel = getD s 5 0; count = be16At s 6 }
 
+-- whether a field has this tag and n bytes of contents
 unfoldable pub isField : Field → ℕ → ℕ → Bool
 isField f tag n = eqb (f .tag) tag && eqb (length (f .contents)) n
 
--- "optional: 13 file mask .., 14 user's seek argument (6); 15 tries made (1)", ascending, with nothing behind the last
+-- "optional: 13 file mask ..; 14 user's seek argument (6); 15 tries made (1)", ascending, with nothing behind the last
 unfoldable pub withTries : Report → List Field → Option Report
 withTries r [] = some r
 withTries r (f ∷ []) =
@@ -40,6 +42,7 @@ withTries r (f ∷ []) =
     (some (record { sense = r .sense; csw = r .csw; first = r .first; mask = r .mask; seek = r .seek; tries = getD (f .contents) 0 0 })) none
 withTries r (f ∷ g ∷ fs) = none
 
+-- "14 user's seek argument (6)"
 unfoldable pub withSeek : Report → List Field → Option Report
 withSeek r [] = some r
 withSeek r (f ∷ fs) =

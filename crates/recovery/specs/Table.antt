@@ -15,9 +15,11 @@ pub record Row : Type 0 where
   pub two : ℕ
   pub action : ℕ
 
+-- a row from its three bit bytes and its action's code
 abbrev pub row : ℕ → ℕ → ℕ → ℕ → Row
 row a b c k = record { zero = a; one = b; two = c; action = k }
 
+-- the table in document 01's order; "The overrun rows (0.5) are house rules."
 unfoldable pub rows : List Row
 rows =
     -- "0.0+1.6→1; 0.0→2; 0.1→3; 0.2→3"
@@ -52,6 +54,7 @@ rows =
 unfoldable pub covers : ℕ → ℕ → Bool
 covers byte b = eqb (bitAnd byte b) b
 
+-- a row that "has all its bits on" in sense 0, 1 and 2
 unfoldable pub fits : List ℕ → Row → Bool
 fits sense r = covers (getD sense 0 0) (r .zero) && covers (getD sense 1 0) (r .one) && covers (getD sense 2 0) (r .two)
 

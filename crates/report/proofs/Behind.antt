@@ -15,6 +15,7 @@ use Rattle.base.specs.Bytes.{part}
 use Rattle.base.proofs.Choice.{found, opt-const, opt-opt}
 use Rattle.fields.specs.declared.Tagged.{Tagged}
 use Rattle.fields.specs.declared.Tagged.the-variants.{Field, Torn}
+use Rattle.fields.specs.declared.Wanted.the-variants.{Missing}
 use Rattle.fields.specs.Fields as Spec
 use Rattle.fields.specs.Fields.{fieldsAt}
 use Rattle.fields.specs.TaggedAt.{taggedAt}
@@ -26,8 +27,7 @@ use Rattle.drive.specs.Step.{settable}
 use Rattle.recovery.specs.Report.{Report, isField, withTries, withSeek, withMask}
 use Rattle.report.specs.declared.Seek.{Seek}
 use Rattle.report.specs.declared.Seek.the-variants.{At}
-use Rattle.report.specs.declared.Wanted.the-variants.{Missing}
-use Rattle.report.specs.Reported.{wantedAt, soFar, Bounds}
+use Rattle.report.specs.Reported.{sizedAt, soFar, Bounds}
 use Rattle.report.proofs.Places.{fieldOf, There, on-found, on-missing, noReport, is-field, first-byte}
 
 abbrev triedOf : Report → ℕ → Report
@@ -61,7 +61,7 @@ module _ (s : List ℕ) (at : ℕ) (r : Report) where
   not-tries f [] h = rw h
   not-tries f (g ∷ fs) h = refl
 
-  pub tries-missing : at < length s → wantedAt s at 0x15 1 ≡ Missing → none ≡ opt (fieldsAt s at) none (withTries r)
+  pub tries-missing : at < length s → sizedAt s at 0x15 1 ≡ Missing → none ≡ opt (fieldsAt s at) none (withTries r)
   tries-missing h e = sym (on-missing s at 0x15 1 (withTries r) noReport e (λ g. absurd (omega arith)) not-tries ∙ opt-const (fieldsAt s at) (λ fs g. refl))
 
   module _ {start next : ℕ} (w : There s at 0x15 1 start next) where
@@ -85,7 +85,7 @@ module _ (s : List ℕ) (at : ℕ) (r : Report) where
 
   -- ---- the seek argument
 
-  pub seek-missing : wantedAt s at 0x14 6 ≡ Missing → opt (fieldsAt s at) none (withTries r) ≡ opt (fieldsAt s at) none (withSeek r)
+  pub seek-missing : sizedAt s at 0x14 6 ≡ Missing → opt (fieldsAt s at) none (withTries r) ≡ opt (fieldsAt s at) none (withSeek r)
   unfolding withSeek withTries pick
   seek-missing e = sym (on-missing s at 0x14 6 (withSeek r) (withTries r) e (λ g. refl) (λ f fs h. rw h))
 
@@ -97,7 +97,7 @@ module _ (s : List ℕ) (at : ℕ) (r : Report) where
 
   -- ---- the mask
 
-  pub mask-missing : wantedAt s at 0x13 1 ≡ Missing → opt (fieldsAt s at) none (withSeek r) ≡ opt (fieldsAt s at) none (withMask r)
+  pub mask-missing : sizedAt s at 0x13 1 ≡ Missing → opt (fieldsAt s at) none (withSeek r) ≡ opt (fieldsAt s at) none (withMask r)
   unfolding withMask withSeek pick
   mask-missing e = sym (on-missing s at 0x13 1 (withMask r) (withSeek r) e (λ g. refl) (λ f fs h. rw h))
 

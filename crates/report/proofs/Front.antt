@@ -17,13 +17,13 @@ use Rattle.base.specs.Choice.{pick, opt}
 use Rattle.base.specs.Bytes.{be16At, be24At, part}
 use Rattle.base.proofs.Choice.{found, opt-const}
 use Rattle.base.proofs.Bytes.{getD-part, be16-part}
+use Rattle.fields.specs.declared.Wanted.the-variants.{Missing}
 use Rattle.fields.specs.Fields as Spec
 use Rattle.fields.specs.Fields.{fieldsAt}
 use Rattle.channel.specs.declared.Csw.{Csw}
 use Rattle.drive.specs.declared.FileMask.the-variants.{Unset}
 use Rattle.recovery.specs.Report.{Report, cswFrom, isField, withMask, fromFields, reportFrom}
-use Rattle.report.specs.declared.Wanted.the-variants.{Missing}
-use Rattle.report.specs.Reported.{wantedAt}
+use Rattle.report.specs.Reported.{sizedAt}
 use Rattle.report.proofs.Places.{fieldOf, There, on-found, on-missing, noReport, is-field, first-byte}
 
 and-false : (a : Bool) → (a && false) ≡ false
@@ -53,7 +53,7 @@ abbrev plainOf : List ℕ → Csw → ℕ → Report
 plainOf sense csw first = record { sense = sense; csw = csw; first = first; mask = Unset; seek = none; tries = 0 }
 
 module _ (s : List ℕ) where
-  pub no-sense : wantedAt s 0 0x10 24 ≡ Missing → none ≡ reportFrom s
+  pub no-sense : sizedAt s 0 0x10 24 ≡ Missing → none ≡ reportFrom s
   unfolding reportFrom fromFields
   no-sense e = sym (on-missing s 0 0x10 24 fromFields noReport e (λ g. refl) not-sense ∙ opt-const (fieldsAt s 0) (λ fs g. refl))
 
@@ -63,7 +63,7 @@ module _ (s : List ℕ) where
     unfolding reportFrom
     sensed = on-found s 0 0x10 24 fromFields w0
 
-    pub no-csw : wantedAt s a 0x11 8 ≡ Missing → none ≡ reportFrom s
+    pub no-csw : sizedAt s a 0x11 8 ≡ Missing → none ≡ reportFrom s
     unfolding fromFields
     no-csw e =
         sym
@@ -75,7 +75,7 @@ module _ (s : List ℕ) where
       told : reportFrom s ≡ opt (fieldsAt s b) none (λ fs. fromFields (fieldOf s 0x10 x a ∷ fieldOf s 0x11 w b ∷ fs))
       told = sensed ∙ on-found s a 0x11 8 (λ fs. fromFields (fieldOf s 0x10 x a ∷ fs)) w1
 
-      pub no-first : wantedAt s b 0x12 2 ≡ Missing → none ≡ reportFrom s
+      pub no-first : sizedAt s b 0x12 2 ≡ Missing → none ≡ reportFrom s
       unfolding fromFields
       no-first e =
           sym

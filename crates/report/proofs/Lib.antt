@@ -1,4 +1,3 @@
 pub mod Places
 pub mod Behind
 pub mod Front
-pub mod Fixed

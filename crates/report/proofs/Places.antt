@@ -1,8 +1,8 @@
 -- A field of one tag and length, and the fields from its place on.
---   torn, other-tag, other-length, stands   what `wantedAt` answers, from the tests that its code makes
---   There, found-tells                      what a field that was found says of the bytes
---   on-found, on-missing                    what fields come to, where that field is found and where it is not
---   is-field, first-byte                    its tag and length, and the first byte of its contents
+--   not-there, other-length, stands   what `sizedAt` answers, from the tests that its code makes
+--   There, found-tells                what a field that was found says of the bytes
+--   on-found, on-missing              what fields come to, where that field is found and where it is not
+--   is-field, first-byte              its tag and length, and the first byte of its contents
 use Prim.Native.Nat.{ℕ, _+_, _-_, _<_, _≤_}
 use native.Mathlib.Nat.{add-zero}
 use native.Mathlib.Omega.{arith}
@@ -19,14 +19,16 @@ use Rattle.base.proofs.Choice.{split, and-left, and-right, found, opt-opt}
 use Rattle.base.proofs.Bytes.{length-part, getD-part}
 use Rattle.fields.specs.declared.Tagged.{Tagged}
 use Rattle.fields.specs.declared.Tagged.the-variants.{Field, Torn}
+use Rattle.fields.specs.declared.Wanted.{Wanted}
+use Rattle.fields.specs.declared.Wanted.the-variants.{Found, Missing}
 use Rattle.fields.specs.Fields as Spec
 use Rattle.fields.specs.Fields.{fieldsAt}
-use Rattle.fields.specs.TaggedAt.{taggedAt}
+use Rattle.fields.specs.TaggedAt.{taggedAt, wantedAt}
 use Rattle.fields.proofs.FieldAt.{tagged-tells}
+use Rattle.fields.proofs.WantedAt.{wanted-stands, wanted-tells, not-found}
 use Rattle.fields.proofs.Fields.{fields-end, fields-torn, fields-on}
 use Rattle.recovery.specs.Report.{Report, isField}
-use Rattle.report.specs.declared.Wanted.the-variants.{Found, Missing}
-use Rattle.report.specs.Reported.{wantedAt}
+use Rattle.report.specs.Reported.{sizedAt}
 
 -- a field of the bytes, by its tag and the places of its contents
 abbrev pub fieldOf : List ℕ → ℕ → ℕ → ℕ → Spec.Field
@@ -39,51 +41,36 @@ pub record There (s : List ℕ) (at tag n start next : ℕ) : Type 0 where
   pub next-is : next ≡ start + n
   pub inside : next ≤ length s
 
-not-found : {P : Type 0} {st nx : ℕ} → Missing ≡ Found st nx → P
-not-found e = let z : _≡_ {A = ℕ} 0 1 = cc in absurd (omega arith)
-
-not-missing : {P : Type 0} {st nx : ℕ} → Found st nx ≡ Missing → P
-not-missing e = let z : _≡_ {A = ℕ} 0 1 = cc in absurd (omega arith)
-
 module _ (s : List ℕ) (at tag n : ℕ) where
-  pub torn : taggedAt s at ≡ Torn → Missing ≡ wantedAt s at tag n
-  unfolding wantedAt
-  torn e = rw e
+  pub not-there : wantedAt s at tag ≡ Missing → Missing ≡ sizedAt s at tag n
+  unfolding sizedAt
+  not-there e = rw e
 
-  module _ {t start next : ℕ} (e : taggedAt s at ≡ Field t start next) where
-    pub other-tag : (t ≡ tag → ⊥) → Missing ≡ wantedAt s at tag n
-    unfolding wantedAt pick
-    other-tag h = rw (e, ne-eqb _ _ h)
+  module _ {start next : ℕ} (e : wantedAt s at tag ≡ Found start next) where
+    pub other-length : (next - start ≡ n → ⊥) → Missing ≡ sizedAt s at tag n
+    unfolding sizedAt pick
+    other-length h = rw (e, ne-eqb _ _ h)
 
-    pub other-length : t ≡ tag → (next - start ≡ n → ⊥) → Missing ≡ wantedAt s at tag n
-    unfolding wantedAt pick
-    other-length h g = rw (e, eq-eqb _ _ h, ne-eqb _ _ g)
+    pub stands : next - start ≡ n → Found start next ≡ sizedAt s at tag n
+    unfolding sizedAt pick
+    stands h = rw (e, eq-eqb _ _ h)
 
-    pub stands : t ≡ tag → next - start ≡ n → Found start next ≡ wantedAt s at tag n
-    unfolding wantedAt pick
-    stands h g = rw (e, eq-eqb _ _ h, eq-eqb _ _ g)
-
-  pub found-tells : {start next : ℕ} → wantedAt s at tag n ≡ Found start next → There s at tag n start next
-  unfolding wantedAt pick
-  found-tells {start} {next} e = by (taggedAt s at) refl
+  pub found-tells : {start next : ℕ} → sizedAt s at tag n ≡ Found start next → There s at tag n start next
+  unfolding sizedAt pick
+  found-tells {start} {next} e = by (wantedAt s at tag) refl
     where
-      by : (r : Tagged) → taggedAt s at ≡ r → There s at tag n start next
-      by Torn q = not-found (rw q at e)
-      by (Field t st nx) q =
-          split (eqb t tag && eqb (nx - st) n)
+      by : (r : Wanted) → wantedAt s at tag ≡ r → There s at tag n start next
+      by Missing q = not-found (rw q at e)
+      by (Found st nx) q =
+          split (eqb (nx - st) n)
           (λ h.
-          let w = tagged-tells s at q in
           let f : Found st nx ≡ Found start next = rw (q, h) at e in
           let a : st ≡ start = cc in
           let b : nx ≡ next = cc in
-          let c : t ≡ tag = eqb-true t tag (and-left (eqb t tag) (eqb (nx - st) n) h) in
-          let d : nx - st ≡ n = eqb-true (nx - st) n (and-right (eqb t tag) (eqb (nx - st) n) h) in
-          record {
-            is = q ∙ rw (c, a, b);
-            start-is = sym a ∙ w .start-is;
-            next-is = rw (← b, ← a) (omega (arith, w .next-is));
-            inside = rw (← b) (w .inside);
-          })
+          let is = rw (a, b) at (wanted-tells s at tag q) in
+          let w = tagged-tells s at is in
+          let d : nx - st ≡ n = eqb-true (nx - st) n h in
+          record { is = is; start-is = w .start-is; next-is = omega (arith, w .next-is); inside = w .inside })
           (λ h. not-found (rw (q, h) at e))
 
   module _ {A : Type 0} (step : List Spec.Field → Option A) where
@@ -94,10 +81,10 @@ module _ (s : List ℕ) (at tag n : ℕ) where
         rw (fields-on s at (w .is)) (opt-opt (fieldsAt s next) (λ fs. some (fieldOf s tag start next ∷ fs)) none step)
 
     -- what fields come to is the same of both, if it is the same where they do not begin with that field
-    pub on-missing : (other : List Spec.Field → Option A) → wantedAt s at tag n ≡ Missing → (length s ≤ at → step [] ≡ other [])
+    pub on-missing : (other : List Spec.Field → Option A) → sizedAt s at tag n ≡ Missing → (length s ≤ at → step [] ≡ other [])
         → ((f : Spec.Field) (fs : List Spec.Field) → isField f tag n ≡ false → step (f ∷ fs) ≡ other (f ∷ fs))
         → opt (fieldsAt s at) none step ≡ opt (fieldsAt s at) none other
-    unfolding wantedAt isField pick opt
+    unfolding isField opt
     on-missing other e none-left differs = by (taggedAt s at) refl
       where
         by : (r : Tagged) → taggedAt s at ≡ r → opt (fieldsAt s at) none step ≡ opt (fieldsAt s at) none other
@@ -105,7 +92,11 @@ module _ (s : List ℕ) (at tag n : ℕ) where
             split (leb (length s) at) (λ h. let g = leb-true (length s) at h in rw (fields-end s at g) (none-left g))
             (λ h. rw (fields-torn s at (leb-false (length s) at h) q))
         by (Field t st nx) q =
-            split (eqb t tag && eqb (nx - st) n) (λ h. not-missing (rw (q, h) at e))
+            split (eqb t tag && eqb (nx - st) n)
+            (λ h.
+            let same = eqb-true t tag (and-left (eqb t tag) (eqb (nx - st) n) h) in
+            let long = eqb-true (nx - st) n (and-right (eqb t tag) (eqb (nx - st) n) h) in
+            not-found (sym (stands (sym (wanted-stands s at tag q same)) long ∙ e)))
             (λ h.
             let l : length (part s st nx) ≡ nx - st = length-part s st nx (tagged-tells s at q .inside) in
             rw (

@@ -1,7 +1,7 @@
 // The report of a unit check: its tagged fields, and question 4.
 use channel::Csw;
 use drive::FileMask;
-use fields::Tagged;
+use fields::Wanted;
 ghost use mathlib.Core.Path.{_≡_};
 ghost use Prim.Native.Nat.{_+_, _<_, _≤_};
 ghost use lib.ListN.{length};
@@ -9,7 +9,7 @@ ghost use Rattle.base.specs.Bytes.{part};
 ghost use Rattle.drive.specs.declared.FileMask.the-variants.{Unset};
 ghost use Rattle.recovery.specs.Report.{reportFrom, cswFrom, withMask, withSeek, withTries};
 ghost use Rattle.report.specs.declared.Seek.the-variants.{Absent};
-ghost use Rattle.report.specs.Reported.{wantedAt, soFar, reportedOf, Reads, Bounds, Bounded};
+ghost use Rattle.report.specs.Reported.{sizedAt, soFar, reportedOf, Reads, Bounds, Bounded};
 
 // The place of the user's seek argument, six bytes.
 pub enum Seek {
@@ -32,26 +32,13 @@ pub enum Reported {
     Ill,
 }
 
-// A field of one tag and length: the place of its contents, and the place behind them.
-enum Wanted {
-    Found { start: usize, next: usize },
-    Missing,
-}
-
-fn wanted_at(report: &[u8], at: usize, tag: u8, n: usize) -> Wanted
-    ensures { λ r. ⌜ r ≡ wantedAt (now (report .entry)) at tag n ⌝ }
+// The field of one tag at a place, if its contents have n bytes.
+fn sized_at(report: &[u8], at: usize, tag: u8, n: usize) -> Wanted
+    ensures { λ r. ⌜ r ≡ sizedAt (now (report .entry)) at tag n ⌝ }
 {
-    let Tagged::Field {
-        tag: t,
-        start,
-        next,
-    } = fields::field_at(report, at)
-    else {
+    let Wanted::Found { start, next } = fields::wanted_at(report, at, tag) else {
         return Wanted::Missing;
     };
-    if t != tag {
-        return Wanted::Missing;
-    }
     if next - start != n {
         return Wanted::Missing;
     }
@@ -83,7 +70,7 @@ fn with_tries(
             tries: 0,
         });
     }
-    let Wanted::Found { start, next } = wanted_at(report, at, 0x15, 1) else {
+    let Wanted::Found { start, next } = sized_at(report, at, 0x15, 1) else {
         return Reported::Ill;
     };
     if next < report.len() {
@@ -104,7 +91,7 @@ fn with_seek(report: &[u8], at: usize, csw: Csw, first: usize, mask: FileMask) -
     ensures { λ out. ⌜ Reads withSeek (now (report .entry)) at (soFar csw first mask Absent) out ⌝ }
     ensures { λ out. ⌜ Bounded (now (report .entry)) out ⌝ }
 {
-    let Wanted::Found { start, next } = wanted_at(report, at, 0x14, 6) else {
+    let Wanted::Found { start, next } = sized_at(report, at, 0x14, 6) else {
         return with_tries(report, at, csw, first, mask, Seek::Absent);
     };
     with_tries(report, next, csw, first, mask, Seek::At(start))
@@ -116,7 +103,7 @@ fn with_mask(report: &[u8], at: usize, csw: Csw, first: usize) -> Reported
     ensures { λ out. ⌜ Reads withMask (now (report .entry)) at (soFar csw first Unset Absent) out ⌝ }
     ensures { λ out. ⌜ Bounded (now (report .entry)) out ⌝ }
 {
-    let Wanted::Found { start, next } = wanted_at(report, at, 0x13, 1) else {
+    let Wanted::Found { start, next } = sized_at(report, at, 0x13, 1) else {
         return with_seek(report, at, csw, first, FileMask::Unset);
     };
     let m = report[start];
@@ -149,21 +136,21 @@ pub fn read(report: &[u8]) -> Reported
     let Wanted::Found {
         start: _,
         next: second,
-    } = wanted_at(report, 0, 0x10, 24)
+    } = sized_at(report, 0, 0x10, 24)
     else {
         return Reported::Ill;
     };
     let Wanted::Found {
         start: csw,
         next: third,
-    } = wanted_at(report, second, 0x11, 8)
+    } = sized_at(report, second, 0x11, 8)
     else {
         return Reported::Ill;
     };
     let Wanted::Found {
         start: first,
         next: rest,
-    } = wanted_at(report, third, 0x12, 2)
+    } = sized_at(report, third, 0x12, 2)
     else {
         return Reported::Ill;
     };

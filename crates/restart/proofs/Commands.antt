@@ -13,12 +13,11 @@
 --   carry-count               so that storage stays
 use Prim.Native.Nat.{ℕ, _+_, _*_, _/_, _%_, _<_}
 use mathlib.Core.Path.{_≡_, refl, ap}
-use mathlib.Core.Bool.{Bool, true, false, _&&_}
+use mathlib.Core.Bool.{Bool, true, false}
 use mathlib.Core.Option.{Option, none, some}
 use mathlib.Core.List.{List, [], _∷_, _++_}
 use lib.Dec.{eqb}
 use lib.ListN.{length, getD, replicate}
-use native.Mathlib.Omega.{arith}
 use borrow.Author.Tests.{lt-ltb, eq-eqb}
 use Rattle.base.specs.Choice.{pick, opt}
 use Rattle.base.specs.Bytes.{part, two, three}
@@ -29,7 +28,7 @@ use Rattle.address.specs.declared.Address.{Address}
 use Rattle.address.specs.Order.{onPack}
 use Rattle.pack.specs.Pack.{Track, trackIn}
 use Rattle.faults.specs.Faults.{Fault}
-use Rattle.machine.specs.Machine.{goes}
+use Rattle.abstract_machine.specs.Machine.{goes}
 use Rattle.channel.specs.declared.Ccw.{Ccw}
 use Rattle.channel.specs.declared.Location.{Location}
 use Rattle.channel.specs.declared.Location.the-variants.{Restart}
@@ -170,23 +169,23 @@ module _ (w : Setting) (a : Address) (sector r to : ℕ) where
 
     pub execute-seek : (d : Drive) → d .mask ≡ Unset → onPack (w .last) a ≡ true
         → execute w′ (Restart k) seekCcw d st ≡ answer (on (k + 8) (placed a Unset 0 false))
-    unfolding pick two part bitOn Ccw.chainsData Ccw.chainsCommand Ccw.formed Ccw.next Ccw.argumentsAt Ccw.argumentsBase Ccw.argumentInside Ccw.argument Drive.atIndex Drive.addressBytes Command.codes Command.lookUp Command.commandOf Step.onward Step.done Step.counted Step.planSeek Step.protects Step.sought Step.sound Step.perform Step.execute Program.padded Program.maskByte Program.argumentsOf Program.searchArguments
+    unfolding pick two part bitOn Ccw.chainsData Ccw.chainsCommand Ccw.formed Ccw.next Ccw.argumentsAt Ccw.argumentsBase Ccw.argumentInside Ccw.argument Drive.atIndex Drive.addressBytes Command.codes Command.lookUp Command.commandOf Step.onward Step.done Step.counted Step.planSeek Step.protects Step.sought Step.sound Step.perform Step.execute Program.padded Program.maskByte Program.restartArgumentsOf Program.searchArguments
     execute-seek d unset on-pack = rw (two-back (a .cylinder), two-back (a .head), on-pack, unset)
 
     pub execute-mask : (d : Drive) (b : ℕ) → m ≡ Set b → d .mask ≡ Unset → Step.settable b ≡ true
         → execute w′ (Restart k) maskCcw d st ≡ answer (on (k + 8) (placed (d .at) m 0 false))
-    unfolding pick two part bitOn Ccw.chainsData Ccw.chainsCommand Ccw.formed Ccw.next Ccw.argumentsAt Ccw.argumentsBase Ccw.argumentInside Ccw.argument Drive.atIndex Drive.addressBytes Command.codes Command.lookUp Command.commandOf Step.onward Step.done Step.counted Step.isSet Step.planMask Step.sound Step.perform Step.execute Program.padded Program.maskByte Program.argumentsOf Program.searchArguments
+    unfolding pick two part bitOn Ccw.chainsData Ccw.chainsCommand Ccw.formed Ccw.next Ccw.argumentsAt Ccw.argumentsBase Ccw.argumentInside Ccw.argument Drive.atIndex Drive.addressBytes Command.codes Command.lookUp Command.commandOf Step.onward Step.done Step.counted Step.isSet Step.planMask Step.sound Step.perform Step.execute Program.padded Program.maskByte Program.restartArgumentsOf Program.searchArguments
     execute-mask d b is unset may = rw (is, unset, may)
 
     pub execute-sector : (d : Drive) → sector < 128
         → execute w′ (Restart k) sectorCcw d st ≡ answer (on (k + 8) (placed (d .at) (d .mask) 0 false))
-    unfolding pick two part bitOn Ccw.chainsData Ccw.chainsCommand Ccw.formed Ccw.next Ccw.argumentsAt Ccw.argumentsBase Ccw.argumentInside Ccw.argument Drive.atIndex Drive.addressBytes Command.codes Command.lookUp Command.commandOf Step.onward Step.done Step.counted Step.planSector Step.sound Step.perform Step.execute Program.padded Program.maskByte Program.argumentsOf Program.searchArguments
+    unfolding pick two part bitOn Ccw.chainsData Ccw.chainsCommand Ccw.formed Ccw.next Ccw.argumentsAt Ccw.argumentsBase Ccw.argumentInside Ccw.argument Drive.atIndex Drive.addressBytes Command.codes Command.lookUp Command.commandOf Step.onward Step.done Step.counted Step.planSector Step.sound Step.perform Step.execute Program.padded Program.maskByte Program.restartArgumentsOf Program.searchArguments
     execute-sector d low = rw (lt-ltb sector 128)
 
     module _ (n : FileMask) (t : Track) (j : ℕ) (passed : Bool) where
       pub execute-search : trackIn (w .pack) a ≡ some t → j < length (t .records) → (getD (t .records) j noRecord) .at ≡ a
           → execute w′ (Restart k) searchCcw (placed a n j passed) st ≡ answer (on (pick (eqb r ((getD (t .records) j noRecord) .r)) (k + 8 + 8) (k + 8)) (placed a n (j + 1) true))
-      unfolding pick opt two part bitOn Ccw.chainsData Ccw.chainsCommand Ccw.formed Ccw.next Ccw.argumentsAt Ccw.argumentsBase Ccw.argumentInside Ccw.argument Drive.behind Drive.turn Drive.passesIndex Drive.addressBytes Drive.identifier Command.codes Command.lookUp Command.commandOf Step.onward Step.done Step.counted Step.passesNow Step.examine Step.planSearch Step.sound Step.perform Step.execute Program.padded Program.maskByte Program.argumentsOf Program.searchArguments
+      unfolding pick opt two part bitOn Ccw.chainsData Ccw.chainsCommand Ccw.formed Ccw.next Ccw.argumentsAt Ccw.argumentsBase Ccw.argumentInside Ccw.argument Drive.movedPast Drive.turn Drive.passesIndex Drive.addressBytes Drive.identifier Command.codes Command.lookUp Command.commandOf Step.onward Step.done Step.counted Step.passesNow Step.examine Step.planSearch Step.sound Step.perform Step.execute Program.padded Program.maskByte Program.restartArgumentsOf Program.searchArguments
       execute-search there inside own =
           rw (there, lt-ltb j (length (t .records)), own, same-track a r ((getD (t .records) j noRecord) .r))
           (pick-inside (λ to. answer (on to (placed a n (j + 1) true))) (eqb r ((getD (t .records) j noRecord) .r)) (k + 8 + 8) (k + 8))
@@ -200,7 +199,7 @@ module _ (w : Setting) (a : Address) (sector r to : ℕ) where
             after = placed a n (ahead t j + 1) true;
             walk = Walk.walked (replicate 8 none) (Restart k) countCcw 0 false;
           })
-      unfolding pick opt two bitOn Ccw.chainsData Ccw.skips Ccw.formed Ccw.storageInside Drive.behind Drive.taken Drive.addressBytes Drive.identifier Drive.countArea Walk.behindPlace Walk.placeUnder Walk.readable Walk.walk Command.codes Command.lookUp Command.commandOf Step.included Step.bytesOf Step.areaOf Step.planTransfer Step.planRecord Step.planPlace Step.planRead Step.sound Step.perform Step.execute
+      unfolding pick opt two bitOn Ccw.chainsData Ccw.skips Ccw.formed Ccw.storageInside Drive.movedPast Drive.taken Drive.addressBytes Drive.identifier Drive.countArea Walk.behindPlace Walk.placeUnder Walk.readable Walk.walk Command.codes Command.lookUp Command.commandOf Step.included Step.bytesOf Step.areaOf Step.planTransfer Step.planRecord Step.planPlace Step.planRead Step.sound Step.perform Step.execute
       execute-count there inside = rw (there, lt-ltb (ahead t j) (length (t .records)))
 
       pub carry-count : (fs : List Fault) → trackIn (w .pack) a ≡ some t → ahead t j < length (t .records)

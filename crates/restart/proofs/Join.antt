@@ -82,7 +82,7 @@ command-off x h =
 
 module _ (w : Setting) (l : Location) (c : Ccw) (st : List ℕ) (a : Address) (m : FileMask) (j : ℕ) where
   perform-five : (k : Command) → On k → perform w l c (placed a m j true) st k ≡ perform w l c (placed a m j false) st k
-  unfolding Drive.behind Drive.taken Step.refusal Step.refuse Step.done Step.counted Step.planMask Step.passesNow Step.examine Step.planSearch Step.planTransfer Step.planHome Step.planRecord Step.planPlace Step.planRead Step.perform
+  unfolding Drive.movedPast Drive.taken Step.refusal Step.refuse Step.done Step.counted Step.planMask Step.passesNow Step.examine Step.planSearch Step.planTransfer Step.planHome Step.planRecord Step.planPlace Step.planRead Step.perform
   perform-five SetMask on-mask = refl
   perform-five SearchId on-search = refl
   perform-five ReadHome on-home = refl
@@ -95,7 +95,7 @@ module _ (w : Setting) (l : Location) (c : Ccw) (st : List ℕ) (a : Address) (m
 
   module _ (t : Track) (there : trackIn (w .pack) a ≡ some t) where
     perform-five-a : (k : Command) → Off k → perform w l c (placed a m (ahead t j + 1) true) st k ≡ perform w l c (placed a m j false) st k
-    unfolding pick opt Drive.behind Drive.taken Step.refusal Step.refuse Step.done Step.counted Step.planNoOperation Step.planSeek Step.planSector Step.planTransfer Step.planRecord Step.planPlace Step.planRead Step.perform
+    unfolding pick opt Drive.movedPast Drive.taken Step.refusal Step.refuse Step.done Step.counted Step.planNoOperation Step.planSeek Step.planSector Step.planTransfer Step.planRecord Step.planPlace Step.planRead Step.perform
     perform-five-a NoOperation off-no-operation = refl
     perform-five-a Seek off-seek = refl
     perform-five-a SetSector off-sector = refl

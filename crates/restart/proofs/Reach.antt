@@ -24,8 +24,8 @@ use Rattle.address.specs.declared.Address.{Address}
 use Rattle.address.specs.Order.{onPack}
 use Rattle.pack.specs.Pack.{Track, trackIn}
 use Rattle.faults.specs.Faults.{Fault}
-use Rattle.machine.specs.Machine.{goes, run}
-use Rattle.machine.proofs.Run.{run-goes}
+use Rattle.abstract_machine.specs.Machine.{goes, run}
+use Rattle.abstract_machine.proofs.Run.{run-goes}
 use Rattle.channel.specs.declared.Ccw.{Ccw}
 use Rattle.channel.specs.declared.Location.{Location}
 use Rattle.channel.specs.declared.Location.the-variants.{Chain, Restart}

@@ -9,6 +9,7 @@ use Rattle.drive.specs.declared.FileMask.{FileMask}
 use Rattle.drive.specs.declared.FileMask.the-variants.{Unset, Set}
 use Rattle.drive.specs.Drive.{addressBytes}
 
+-- "CCW: command, address 3, flags .., ignored byte, count 2"; the ignored byte is 0
 unfoldable pub ccwBytes : (command address flags count : ℕ) → List ℕ
 ccwBytes command address flags count = command ∷ three address ++ flags ∷ 0 ∷ two count
 
@@ -36,11 +37,12 @@ unfoldable pub searchAddress : FileMask → ℕ
 searchAddress Unset = 0x1010
 searchAddress (Set m) = 0x1018
 
--- 5: "search ID (sense 8 to 12), TIC to that search"; 5A: "a read count (12, flags 50, count 8) stands before the last TIC"
+-- 5A: "a read count (12, flags 50, count 8) stands before the last TIC"
 unfoldable pub countCcw : Bool → List ℕ
 countCcw true = ccwBytes 0x12 0 0x50 8
 countCcw false = []
 
+-- "search ID (sense 8 to 12), TIC to that search", and with `counts` the read count of 5A
 unfoldable pub searching : FileMask → Bool → List ℕ
 searching m counts = ccwBytes 0x31 0x2008 0x40 5 ++ ticTo (searchAddress m) ++ countCcw counts
 
@@ -54,9 +56,9 @@ maskByte Unset = 0
 maskByte (Set m) = m
 
 -- seek (00 00, cylinder, head), mask, sector, ID (five bytes)
-unfoldable pub argumentsOf : Address → FileMask → ℕ → List ℕ → List ℕ
-argumentsOf a m sector id = padded 16 (0 ∷ 0 ∷ addressBytes a ++ maskByte m ∷ sector ∷ id)
+unfoldable pub restartArgumentsOf : Address → FileMask → ℕ → List ℕ → List ℕ
+restartArgumentsOf a m sector id = padded 16 (0 ∷ 0 ∷ addressBytes a ++ maskByte m ∷ sector ∷ id)
 
 -- the arguments of 5 and 5A: sector 0 stands in a trial drive's sense 13
 unfoldable pub searchArguments : Address → FileMask → ℕ → ℕ → List ℕ
-searchArguments a m sector r = argumentsOf a m sector (addressBytes a ++ r ∷ [])
+searchArguments a m sector r = restartArgumentsOf a m sector (addressBytes a ++ r ∷ [])

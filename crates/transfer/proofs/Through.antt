@@ -1,48 +1,32 @@
 -- A read through its data chain, a CCW at a time.
---   room, positive                what a CCW that a read may use says of its range and count
 --   nowhere, at-address           what a stretch leaves in storage
 --   rest                          what is left of a read
 --   rest-short .. rest-on         how it ends at a CCW, and how it goes on at the next
 --   same-size, short-at .. on-at  the same by places in the read's bytes
 use Prim.Native.Nat.{ℕ, _+_, _-_, _<_, _≤_}
 use native.Mathlib.Omega.{arith}
-use mathlib.Core.Path.{_≡_, refl, ap, sym, _∙_}
-use mathlib.Core.Bool.{Bool, true, false, _&&_, _||_, not}
+use mathlib.Core.Path.{_≡_, ap, sym, _∙_}
+use mathlib.Core.Bool.{Bool, true, false}
 use mathlib.Core.Option.{Option}
-use mathlib.Core.List.{List, [], _++_, append-nil}
-use lib.Dec.{ltb, leb, eqb}
-use lib.ListN.{length, take, drop, length-take, length-drop}
+use mathlib.Core.List.{List, [], _++_}
+use lib.Dec.{ltb}
+use lib.ListN.{length, take, drop, length-drop}
 use lib.Seq.{drop-drop}
-use borrow.Author.Tests.{leb-true, eqb-false, lt-ltb, le-ltb, ltb-true, ltb-false, not-true}
+use borrow.Author.Tests.{lt-ltb, le-ltb, ltb-true, ltb-false}
 use Rattle.base.specs.Choice.{pick}
-use Rattle.base.proofs.Choice.{split, and-left, and-right}
+use Rattle.base.proofs.Choice.{split}
 use Rattle.channel.specs.declared.Ccw.{Ccw}
 use Rattle.channel.specs.declared.Location.{Location}
 use Rattle.channel.specs.declared.Fetched.the-variants.{Got, Broken}
-use Rattle.channel.specs.Ccw.{Lent, chainsData, skips, formed, next, resolve, storageInside}
+use Rattle.channel.specs.Ccw.{Lent, chainsData, skips, next, resolve}
 use Rattle.channel.specs.Store.{store}
-use Rattle.channel.specs.Walk.{Walk, walked, stopped, chained, walk, readable}
-use Rattle.channel.proofs.Stretch.{placesUnder, behindPlaces, length-placesUnder, behindPlaces-walked, behindPlaces-stopped, walk-short, walk-fits, walk-over, walk-chained, length-store, store-take, store-append, store-range, store-skipped}
+use Rattle.channel.specs.Walk.{Walk, walked, checked, chained, walk, readable}
+use Rattle.channel.proofs.Stretch.{placesUnder, behindPlaces, length-placesUnder, behindPlaces-walked, behindPlaces-checked, walk-short, walk-out, walk-chained, length-store, store-take, store-append, store-range, store-skipped}
+use Rattle.channel.proofs.Readable.{room, positive}
 use Rattle.copy.proofs.Lists.{put-home}
-use Rattle.transfer.specs.declared.Moved.{Moved}
 use Rattle.transfer.specs.declared.Moved.the-variants.{Ended, Checked}
 use Rattle.transfer.specs.Transfer.{Left, left, carried, stretched}
 use borrow.Rule.Slice.PartMut.{midOf, putMid}
-
--- ---- a CCW that a read may use
-
-module _ (size : ℕ) (c : Ccw) (h : readable size c ≡ true) where
-  pub room : skips c ≡ false → c .address + c .count ≤ size
-  unfolding readable storageInside
-  room e = leb-true _ _ (rw e at (and-right (formed c) (skips c || leb (c .address + c .count) size) h))
-
-  pub positive : 0 < c .count
-  unfolding readable formed
-  positive =
-      let f : formed c ≡ true = and-left (formed c) (storageInside size c) h in
-      let g : not (eqb (c .count) 0) ≡ true = and-left (not (eqb (c .count) 0)) _ f in
-      let z : c .count ≡ 0 → ⊥ = eqb-false (c .count) 0 (not-true _ g) in
-      omega arith
 
 -- ---- a stretch
 
@@ -70,19 +54,7 @@ carried-behind : (ps : List (Option ℕ)) (w : Walk) (bs st : List ℕ) → carr
 unfolding carried
 carried-behind ps (walked qs l c n over) bs st =
     rw (behindPlaces-walked ps qs l c n over) (ap (left (Ended l c n over)) (store-append ps qs bs st ∙ rw (store-take ps bs st)))
-carried-behind ps (stopped qs l) bs st = rw (behindPlaces-stopped ps qs l) (ap (left (Checked l)) (store-append ps qs bs st ∙ rw (store-take ps bs st)))
-
--- the count runs out with no CCW chained: bytes are left over where there are more
-pub walk-out : (p : Lent) (size n : ℕ) (l : Location) (c : Ccw) (k a : ℕ) → k ≤ n → chainsData c ≡ false
-    → walk p size n l c k a ≡ behindPlaces (placesUnder c a k) (walked [] l c 0 (ltb k n))
-walk-out p size n l c k a h f =
-    split (ltb k n) (λ e. rw e (walk-over p size n l c k a (ltb-true _ _ e) f))
-    (λ e.
-    let g : n ≤ k = ltb-false k n e in
-    let q : n ≡ k = omega arith in
-    let z : k - n ≡ 0 = omega arith in
-    let w = walk-fits p size n l c k a g f in
-    rw e (w ∙ rw z (ap (λ m. behindPlaces (placesUnder c a m) (walked [] l c 0 false)) q)))
+carried-behind ps (checked qs l) bs st = rw (behindPlaces-checked ps qs l) (ap (left (Checked l)) (store-append ps qs bs st ∙ rw (store-take ps bs st)))
 
 -- what is left of a read at a CCW that it has just come to
 unfoldable pub rest : Lent → ℕ → Location → Ccw → List ℕ → List ℕ → Left

@@ -8,21 +8,23 @@ use Rattle.channel.specs.declared.Ccw.{Ccw}
 use Rattle.channel.specs.declared.Location.{Location}
 use Rattle.channel.specs.Ccw.{Lent, skips}
 use Rattle.channel.specs.Store.{store}
-use Rattle.channel.specs.Walk.{Walk, walked, stopped, walk}
+use Rattle.channel.specs.Walk.{Walk, walked, checked, walk}
 use Rattle.transfer.specs.declared.Moved.{Moved}
 use Rattle.transfer.specs.declared.Moved.the-variants.{Ended, Checked}
 
+-- How the data chain of a read ended, and storage as the read left it.
 pub record Left : Type 0 where
   pub moved : Moved
   pub storage : List ℕ
 
+-- the same, from its parts
 abbrev pub left : Moved → List ℕ → Left
 left m st = record { moved = m; storage = st }
 
 -- the bytes of a read, through a walk of its data chain
 unfoldable pub carried : Walk → List ℕ → List ℕ → Left
 carried (walked ps l c n over) bs st = left (Ended l c n over) (store ps bs st)
-carried (stopped ps l) bs st = left (Checked l) (store ps bs st)
+carried (checked ps l) bs st = left (Checked l) (store ps bs st)
 
 -- a read whose first CCW is c at l
 unfoldable pub transferred : Lent → Location → Ccw → List ℕ → List ℕ → Left

@@ -6,7 +6,6 @@ ghost use mathlib.Core.Path.{_≡_};
 ghost use mathlib.Core.Bool.{true};
 ghost use Prim.Native.Nat.{_+_, _≤_};
 ghost use lib.ListN.{length, drop};
-ghost use Rattle.channel.specs.Ccw.{next};
 ghost use Rattle.channel.specs.Walk.{readable};
 ghost use Rattle.channel.specs.Fetch.{InBytes, Inside};
 ghost use Rattle.transfer.specs.Transfer.{left, Transfers, CountLow, stretched};
@@ -21,17 +20,6 @@ pub enum Moved {
         over: bool,
     },
     Checked(Location),
-}
-
-// The CCW behind one that was fetched.
-pub fn behind(chain: &[u8], program: &[u8], l: Location) -> Location
-    requires { ⌜ Inside (now chain) (now program) l ⌝ }
-    ensures { λ r. ⌜ r ≡ next l ⌝ }
-{
-    match l {
-        Location::Chain(a) => Location::Chain(a + 8),
-        Location::Restart(a) => Location::Restart(a + 8),
-    }
 }
 
 // The next n bytes of a read under one CCW. Its stretch of storage is lent on from its address.
@@ -90,7 +78,7 @@ pub fn transfer(
                 over: from < bytes.len(),
             };
         }
-        match channel::resolve(chain, program, here, behind(chain, program, here)) {
+        match channel::resolve(chain, program, here, location::next(here)) {
             Fetched::Broken(x) => {
                 return Moved::Checked(x);
             }

@@ -17,7 +17,7 @@ use borrow.Author.Tests.{leb-true, eqb-true}
 use Rattle.base.specs.Choice.{pick, opt}
 use Rattle.base.proofs.Choice.{pick-true, pick-false, and-left, and-right, and-true}
 use Rattle.questions.specs.declared.Question.the-variants as Question
-use Rattle.questions.specs.Areas.{chainFits, argumentsFit, storageFits, imageFits, faultsFit, limitFits, runAreas, restartAreas}
+use Rattle.questions.specs.Areas.{chainFits, argumentsFit, storageFits, imageFits, faultsFit, limitFits, runAreas, restartAreas, restartLimit}
 use Rattle.address.specs.Order.{lastCylinder}
 use Rattle.pack.specs.Pack.{Track, packOf}
 use Rattle.image.specs.Image.{wellFormed}
@@ -26,13 +26,13 @@ use Rattle.channel.specs.declared.Location.{Location}
 use Rattle.channel.specs.declared.Location.the-variants.{Chain, Restart}
 use Rattle.channel.specs.Ccw.{Lent, addressOf}
 use Rattle.drive.specs.Run.{runFrom}
-use Rattle.command.specs.Answer.{settingOf, Low}
-use Rattle.execute.specs.Executes.{lentOf}
+use Rattle.location.specs.Low.{Low}
+use Rattle.command.specs.Answer.{settingWith, lentOf}
 use Rattle.trial.specs.declared.Ran.{Ran}
 use Rattle.trial.specs.declared.Ran.the-variants as Ran
 use Rattle.trial.specs.declared.Trial.the-variants as Trial
 use Rattle.trial.specs.Run.{ranOf}
-use Rattle.trial.specs.Trial.{storageOf, Conclusion, refusal, concluded, begin, runCall, restartLimit, restartedAreas, restartCall, conclusionOf}
+use Rattle.trial.specs.Trial.{storageOf, Conclusion, refusal, concluded, begin, runCall, restartedAreas, restartCall, conclusionOf}
 
 -- ---- question 1
 
@@ -92,11 +92,11 @@ module _ (p : Lent) (image faults : List ℕ) (n : ℕ) (l : Location) (st : Lis
     pub faults-refused : soundFrom (packOf image) faults 0 ≡ false → conclusionOf (Trial.Refused Question.Faults) st ≡ begin p image faults n l st
     unfolding begin refusal soundFrom
     faults-refused h =
-        kept-out (faultsAt faults 0) (soundFaults (packOf image)) (refusal st Question.Faults) (λ fs. concluded (runFrom fs (settingOf p image) n l st)) h
+        kept-out (faultsAt faults 0) (soundFaults (packOf image)) (refusal st Question.Faults) (λ fs. concluded (runFrom fs (settingWith p image) n l st)) h
         ∙ sym (pick-true _ _ w)
 
     pub ran-so : (fs : List Fault) → faultsAt faults 0 ≡ some fs → soundFaults (packOf image) fs ≡ true → (r : Ran) (after : List ℕ)
-        → runFrom fs (settingOf p image) n l st ≡ ranOf r after → conclusionOf (Trial.Ran r) after ≡ begin p image faults n l st
+        → runFrom fs (settingWith p image) n l st ≡ ranOf r after → conclusionOf (Trial.Ran r) after ≡ begin p image faults n l st
     unfolding begin pick opt
     ran-so fs e q r after ran = rw (w, e, q, ran) (concluded-so r after)
 
@@ -114,30 +114,30 @@ module _ (chain arguments st image faults : List ℕ) (n : ℕ) where
   run-fits h k e = rw h e
 
 -- any limit that fits says nothing of the areas
-areas-only : (chain arguments program restarts storage image faults : ℕ) (v w : Bool) → runAreas chain arguments storage image faults 1 ≡ v
-    → restartAreas program restarts ≡ w → restartedAreas chain arguments program restarts storage image faults ≡ (v && w)
+areas-only : (chain arguments program restartArguments storage image faults : ℕ) (v w : Bool) → runAreas chain arguments storage image faults 1 ≡ v
+    → restartAreas program restartArguments ≡ w → restartedAreas chain arguments program restartArguments storage image faults ≡ (v && w)
 unfolding restartedAreas runAreas limitFits
-areas-only chain arguments program restarts storage image faults v w e f =
+areas-only chain arguments program restartArguments storage image faults v w e f =
     rw (sym (and-true (chainFits chain && argumentsFit arguments && storageFits storage && imageFits image && faultsFit faults)) ∙ e, f)
 
-module _ (chain arguments program restarts st image faults : List ℕ) where
-  areas : (v w : Bool) → runAreas (length chain) (length arguments) (length st) (length image) (length faults) 1 ≡ v → restartAreas (length program) (length restarts) ≡ w
-      → restartedAreas (length chain) (length arguments) (length program) (length restarts) (length st) (length image) (length faults) ≡ (v && w)
-  areas v w e f = areas-only (length chain) (length arguments) (length program) (length restarts) (length st) (length image) (length faults) v w e f
+module _ (chain arguments program restartArguments st image faults : List ℕ) where
+  areas : (v w : Bool) → runAreas (length chain) (length arguments) (length st) (length image) (length faults) 1 ≡ v → restartAreas (length program) (length restartArguments) ≡ w
+      → restartedAreas (length chain) (length arguments) (length program) (length restartArguments) (length st) (length image) (length faults) ≡ (v && w)
+  areas v w e f = areas-only (length chain) (length arguments) (length program) (length restartArguments) (length st) (length image) (length faults) v w e f
 
   pub restart-refused : runAreas (length chain) (length arguments) (length st) (length image) (length faults) 1 ≡ false
-      → conclusionOf (Trial.Refused Question.Areas) st ≡ restartCall chain arguments program restarts st image faults
+      → conclusionOf (Trial.Refused Question.Areas) st ≡ restartCall chain arguments program restartArguments st image faults
   unfolding restartCall refusal pick
   restart-refused h = rw (areas false _ h refl)
 
   module _ (a : runAreas (length chain) (length arguments) (length st) (length image) (length faults) 1 ≡ true) where
-    pub program-refused : restartAreas (length program) (length restarts) ≡ false
-        → conclusionOf (Trial.Refused Question.Areas) st ≡ restartCall chain arguments program restarts st image faults
+    pub program-refused : restartAreas (length program) (length restartArguments) ≡ false
+        → conclusionOf (Trial.Refused Question.Areas) st ≡ restartCall chain arguments program restartArguments st image faults
     unfolding restartCall refusal pick
     program-refused h = rw (areas true false a h)
 
-    pub restart-fits : restartAreas (length program) (length restarts) ≡ true
-        → (k : Conclusion) → k ≡ begin (lentOf chain arguments program restarts) image faults restartLimit (Restart 0) st
-        → k ≡ restartCall chain arguments program restarts st image faults
+    pub restart-fits : restartAreas (length program) (length restartArguments) ≡ true
+        → (k : Conclusion) → k ≡ begin (lentOf chain arguments program restartArguments) image faults restartLimit (Restart 0) st
+        → k ≡ restartCall chain arguments program restartArguments st image faults
     unfolding restartCall pick
     restart-fits h k e = rw (areas true true a h) e

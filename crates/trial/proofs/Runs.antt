@@ -10,9 +10,10 @@ use mathlib.Core.Option.{none, some}
 use mathlib.Core.List.{List}
 use Rattle.base.specs.Choice.{pick, opt}
 use Rattle.faults.specs.Faults.{Fault, faultsAt}
-use Rattle.machine.specs.Machine.{Result, run}
-use Rattle.machine.proofs.Run.{run-again, run-ended, run-cut-off, run-none}
+use Rattle.abstract_machine.specs.Machine.{Result, run}
+use Rattle.abstract_machine.proofs.Run.{run-again, run-ended, run-cut-off, run-none}
 use Rattle.channel.specs.declared.Ccw.{Ccw}
+use Rattle.channel.specs.Csw.{cswAt}
 use Rattle.channel.specs.declared.Csw.{Csw}
 use Rattle.channel.specs.declared.Location.{Location}
 use Rattle.channel.specs.Ccw.{Lent, isTic, fetch}
@@ -27,38 +28,38 @@ use Rattle.command.specs.declared.End.{End}
 use Rattle.command.specs.declared.Cut.{Cut}
 use Rattle.command.specs.declared.Status.the-variants.{Quiet}
 use Rattle.command.specs.declared.Answer.the-variants.{Goes, Ends, Cuts}
-use Rattle.command.specs.Answer.{stateOf, settingOf}
-use Rattle.execute.specs.Executes.{lentOf, Steps}
+use Rattle.command.specs.Answer.{stateOf, settingWith, lentOf}
+use Rattle.execute.specs.Executes.{Steps}
 use Rattle.trial.specs.declared.Ran.{Ran}
 use Rattle.trial.specs.declared.Ran.the-variants as Ran
 use Rattle.trial.specs.Run.{RunsOn, Runs}
 
 -- ---- command by command
 
-module _ (chain arguments program restarts image faults : List ℕ) where
+module _ (chain arguments program restartArguments image faults : List ℕ) where
   -- what n commands from a state and storage on come to
   abbrev rest : List Fault → ℕ → State → List ℕ → Result Step.State Step.End Step.Cut
-  rest fs n s st = run (Step.step fs (settingOf (lentOf chain arguments program restarts) image)) n (stateOf s st)
+  rest fs n s st = run (Step.step fs (settingWith (lentOf chain arguments program restartArguments) image)) n (stateOf s st)
 
   abbrev pub Alike : ℕ → State → List ℕ → ℕ → State → List ℕ → Type 0
   Alike n s st m t u = (fs : List Fault) → faultsAt faults 0 ≡ some fs → rest fs n s st ≡ rest fs m t u
 
   module _ (m : ℕ) (s₀ : State) (st₀ : List ℕ) (n : ℕ) (s : State) (st : List ℕ) (same : Alike n s st m s₀ st₀) where
-    pub goes-on : (t : State) (after : List ℕ) → 0 < n → Steps chain arguments program restarts image faults s st (Goes t) after
+    pub goes-on : (t : State) (after : List ℕ) → 0 < n → Steps chain arguments program restartArguments image faults s st (Goes t) after
         → Alike (n - 1) t after m s₀ st₀
     goes-on t after h e fs l =
-        sym (run-again (Step.step fs (settingOf (lentOf chain arguments program restarts) image)) n (stateOf s st) (stateOf t after) h (e fs l)) ∙ same fs l
+        sym (run-again (Step.step fs (settingWith (lentOf chain arguments program restartArguments) image)) n (stateOf s st) (stateOf t after) h (e fs l)) ∙ same fs l
 
-    pub ends-so : (k : End) (after : List ℕ) → 0 < n → Steps chain arguments program restarts image faults s st (Ends k) after
-        → RunsOn chain arguments program restarts image faults m s₀ st₀ (Ran.Ended k) after
-    ends-so k after h e fs l = sym (same fs l) ∙ run-ended (Step.step fs (settingOf (lentOf chain arguments program restarts) image)) n (stateOf s st) _ h (e fs l)
+    pub ends-so : (k : End) (after : List ℕ) → 0 < n → Steps chain arguments program restartArguments image faults s st (Ends k) after
+        → RunsOn chain arguments program restartArguments image faults m s₀ st₀ (Ran.Ended k) after
+    ends-so k after h e fs l = sym (same fs l) ∙ run-ended (Step.step fs (settingWith (lentOf chain arguments program restartArguments) image)) n (stateOf s st) _ h (e fs l)
 
-    pub cut-so : (k : Cut) (after : List ℕ) → 0 < n → Steps chain arguments program restarts image faults s st (Cuts k) after
-        → RunsOn chain arguments program restarts image faults m s₀ st₀ (Ran.Cut k) after
-    cut-so k after h e fs l = sym (same fs l) ∙ run-cut-off (Step.step fs (settingOf (lentOf chain arguments program restarts) image)) n (stateOf s st) _ h (e fs l)
+    pub cut-so : (k : Cut) (after : List ℕ) → 0 < n → Steps chain arguments program restartArguments image faults s st (Cuts k) after
+        → RunsOn chain arguments program restartArguments image faults m s₀ st₀ (Ran.Cut k) after
+    cut-so k after h e fs l = sym (same fs l) ∙ run-cut-off (Step.step fs (settingWith (lentOf chain arguments program restartArguments) image)) n (stateOf s st) _ h (e fs l)
 
-    pub out : n ≤ 0 → RunsOn chain arguments program restarts image faults m s₀ st₀ (Ran.Limited s) st
-    out h fs l = sym (same fs l) ∙ run-none (Step.step fs (settingOf (lentOf chain arguments program restarts) image)) n (stateOf s st) h
+    pub out : n ≤ 0 → RunsOn chain arguments program restartArguments image faults m s₀ st₀ (Ran.Limited s) st
+    out h fs l = sym (same fs l) ∙ run-none (Step.step fs (settingWith (lentOf chain arguments program restartArguments) image)) n (stateOf s st) h
 
 -- ---- the first CCW
 
@@ -73,14 +74,14 @@ module _ (p : Lent) (l : Location) where
 
 -- ---- the whole run
 
-module _ (chain arguments program restarts image faults : List ℕ) (n : ℕ) (l : Location) (st : List ℕ) where
-  pub checked-first : (c : Csw) → c ≡ Step.cswAt l 0 0x20 0 → true ≡ ticFirst (lentOf chain arguments program restarts) l
-      → Runs chain arguments program restarts image faults n l st (Ran.Ended (record { csw = c; status = Quiet; mask = Unset })) st
+module _ (chain arguments program restartArguments image faults : List ℕ) (n : ℕ) (l : Location) (st : List ℕ) where
+  pub checked-first : (c : Csw) → c ≡ cswAt l 0 0x20 0 → true ≡ ticFirst (lentOf chain arguments program restartArguments) l
+      → Runs chain arguments program restartArguments image faults n l st (Ran.Ended (record { csw = c; status = Quiet; mask = Unset })) st
   unfolding runFrom pick Abstract.initial
   checked-first c e h fs q = rw (← h, e)
 
-  pub begun-so : (d : Drive) → driveOf d ≡ Abstract.initial → false ≡ ticFirst (lentOf chain arguments program restarts) l → (r : Ran) (after : List ℕ)
-      → RunsOn chain arguments program restarts image faults n (record { at = l; last = l; left = 0; drive = d }) st r after
-      → Runs chain arguments program restarts image faults n l st r after
+  pub begun-so : (d : Drive) → driveOf d ≡ Abstract.initial → false ≡ ticFirst (lentOf chain arguments program restartArguments) l → (r : Ran) (after : List ℕ)
+      → RunsOn chain arguments program restartArguments image faults n (record { at = l; last = l; left = 0; drive = d }) st r after
+      → Runs chain arguments program restartArguments image faults n l st r after
   unfolding runFrom pick start
   begun-so d e h r after ran fs q = rw (← h, ← e) (ran fs q)

@@ -5,15 +5,15 @@ use mathlib.Core.Bool.{Bool}
 use mathlib.Core.Option.{some}
 use mathlib.Core.List.{List}
 use Rattle.faults.specs.Faults.{Fault, faultsAt}
-use Rattle.machine.specs.Machine as Machine
-use Rattle.machine.specs.Machine.{Result, ended, cut, limit}
+use Rattle.abstract_machine.specs.Machine as Machine
+use Rattle.abstract_machine.specs.Machine.{Result, ended, cut, limit}
 use Rattle.channel.specs.declared.Location.{Location}
 use Rattle.channel.specs.Ccw.{Lent}
 use Rattle.drive.specs.Step as Step
 use Rattle.drive.specs.Run.{ticFirst, runFrom}
 use Rattle.command.specs.declared.State.{State}
-use Rattle.command.specs.Answer.{stateOf, endOf, cutOf, settingOf, CswLow, StateLow, CutLow}
-use Rattle.execute.specs.Executes.{lentOf}
+use Rattle.location.specs.Low.{CswLow}
+use Rattle.command.specs.Answer.{stateOf, endOf, cutOf, settingWith, StateLow, CutLow, lentOf}
 use Rattle.trial.specs.declared.Ran.{Ran}
 use Rattle.trial.specs.declared.Ran.the-variants.{Ended, Cut, Limited}
 
@@ -34,13 +34,13 @@ abbrev pub TicsFirst : (chain program : List ℕ) → Location → Bool → Type
 TicsFirst chain program l b = (p : Lent) → p .chain ≡ chain → p .program ≡ program → b ≡ ticFirst p l
 
 -- at most n commands from a state and storage on: what they come to, and storage behind them
-abbrev pub RunsOn : (chain arguments program restarts image faults : List ℕ) → ℕ → State → List ℕ → Ran → List ℕ → Type 0
-RunsOn chain arguments program restarts image faults n s st r after =
+abbrev pub RunsOn : (chain arguments program restartArguments image faults : List ℕ) → ℕ → State → List ℕ → Ran → List ℕ → Type 0
+RunsOn chain arguments program restartArguments image faults n s st r after =
     (fs : List Fault) → faultsAt faults 0 ≡ some fs
-    → Machine.run (Step.step fs (settingOf (lentOf chain arguments program restarts) image)) n (stateOf s st) ≡ ranOf r after
+    → Machine.run (Step.step fs (settingWith (lentOf chain arguments program restartArguments) image)) n (stateOf s st) ≡ ranOf r after
 
 -- the whole run, from a place and storage
-abbrev pub Runs : (chain arguments program restarts image faults : List ℕ) → ℕ → Location → List ℕ → Ran → List ℕ → Type 0
-Runs chain arguments program restarts image faults n l st r after =
+abbrev pub Runs : (chain arguments program restartArguments image faults : List ℕ) → ℕ → Location → List ℕ → Ran → List ℕ → Type 0
+Runs chain arguments program restartArguments image faults n l st r after =
     (fs : List Fault) → faultsAt faults 0 ≡ some fs
-    → runFrom fs (settingOf (lentOf chain arguments program restarts) image) n l st ≡ ranOf r after
+    → runFrom fs (settingWith (lentOf chain arguments program restartArguments) image) n l st ≡ ranOf r after

@@ -7,12 +7,12 @@ use lib.ListN.{length}
 use Rattle.base.specs.Choice.{pick, opt}
 use Rattle.questions.specs.declared.Question.{Question}
 use Rattle.questions.specs.declared.Question.the-variants as Question
-use Rattle.questions.specs.Areas.{chainFits, argumentsFit, storageFits, imageFits, faultsFit, runAreas, restartAreas}
+use Rattle.questions.specs.Areas.{chainFits, argumentsFit, storageFits, imageFits, faultsFit, runAreas, restartAreas, restartLimit}
 use Rattle.address.specs.Order.{lastCylinder}
 use Rattle.pack.specs.Pack.{packOf}
 use Rattle.image.specs.Image.{wellFormed}
 use Rattle.faults.specs.Faults.{faultsAt, soundFaults}
-use Rattle.machine.specs.Machine.{Result, ended, cut, limit}
+use Rattle.abstract_machine.specs.Machine.{Result, ended, cut, limit}
 use Rattle.channel.specs.declared.Location.{Location}
 use Rattle.channel.specs.declared.Location.the-variants.{Chain, Restart}
 use Rattle.channel.specs.declared.Csw.{Csw}
@@ -20,8 +20,7 @@ use Rattle.channel.specs.Ccw.{Lent, addressOf}
 use Rattle.drive.specs.declared.FileMask.{FileMask}
 use Rattle.drive.specs.Step.{State, End, Cut, noSense, cutSense}
 use Rattle.drive.specs.Run.{runFrom, limitCsw}
-use Rattle.command.specs.Answer.{settingOf}
-use Rattle.execute.specs.Executes.{lentOf}
+use Rattle.command.specs.Answer.{settingWith, lentOf}
 use Rattle.trial.specs.declared.Trial.{Trial}
 use Rattle.trial.specs.declared.Trial.the-variants as Trial
 use Rattle.trial.specs.Run.{ranOf, RanLow}
@@ -64,6 +63,7 @@ pub record Conclusion : Type 0 where
 unfoldable pub refusal : List ℕ → Question → Conclusion
 refusal st q = record { answer = refused q; storage = st }
 
+-- what a run comes to, and storage as it leaves it
 unfoldable pub concluded : Result State End Cut → Conclusion
 concluded r = record { answer = answered r; storage = storageOf r }
 
@@ -72,7 +72,7 @@ unfoldable pub begin : Lent → (image faults : List ℕ) → ℕ → Location �
 begin p image faults n l st =
     pick (wellFormed lastCylinder image)
     (opt (faultsAt faults 0) (refusal st Question.Faults)
-    (λ fs. pick (soundFaults (packOf image) fs) (concluded (runFrom fs (settingOf p image) n l st)) (refusal st Question.Faults)))
+    (λ fs. pick (soundFaults (packOf image) fs) (concluded (runFrom fs (settingWith p image) n l st)) (refusal st Question.Faults)))
     (refusal st Question.Image)
 
 -- A run of a chain. "1. Are all areas and limits as above?"
@@ -82,20 +82,16 @@ runCall chain arguments st image faults n =
     (begin (lentOf chain arguments [] []) image faults n (Chain 0) st)
     (refusal st Question.Areas)
 
--- "a restarted run has 8,192"
-abbrev pub restartLimit : ℕ
-restartLimit = 8192
-
 -- question 1 for a restarted run: the five areas of a run and the two restart areas; its limit is not lent
-unfoldable pub restartedAreas : (chain arguments program restarts storage image faults : ℕ) → Bool
-restartedAreas chain arguments program restarts storage image faults =
-    chainFits chain && argumentsFit arguments && storageFits storage && imageFits image && faultsFit faults && restartAreas program restarts
+unfoldable pub restartedAreas : (chain arguments program restartArguments storage image faults : ℕ) → Bool
+restartedAreas chain arguments program restartArguments storage image faults =
+    chainFits chain && argumentsFit arguments && storageFits storage && imageFits image && faultsFit faults && restartAreas program restartArguments
 
 -- A run of a restart program: "restart program, 64 bytes at 1000; restart arguments, 16 bytes at 2000".
-unfoldable pub restartCall : (chain arguments program restarts st image faults : List ℕ) → Conclusion
-restartCall chain arguments program restarts st image faults =
-    pick (restartedAreas (length chain) (length arguments) (length program) (length restarts) (length st) (length image) (length faults))
-    (begin (lentOf chain arguments program restarts) image faults restartLimit (Restart 0) st)
+unfoldable pub restartCall : (chain arguments program restartArguments st image faults : List ℕ) → Conclusion
+restartCall chain arguments program restartArguments st image faults =
+    pick (restartedAreas (length chain) (length arguments) (length program) (length restartArguments) (length st) (length image) (length faults))
+    (begin (lentOf chain arguments program restartArguments) image faults restartLimit (Restart 0) st)
     (refusal st Question.Areas)
 
 -- ---- the code's answers
@@ -105,9 +101,11 @@ abbrev pub calledOf : Trial → List ℕ → Called
 calledOf (Trial.Refused q) st = refused q
 calledOf (Trial.Ran r) st = answered (ranOf r st)
 
+-- the same, with that storage beside it
 abbrev pub conclusionOf : Trial → List ℕ → Conclusion
 conclusionOf t st = record { answer = calledOf t st; storage = st }
 
+-- what a call shows of a run fits its bytes
 abbrev pub TrialLow : Trial → Type 0
 TrialLow (Trial.Refused q) = Unit {0}
 TrialLow (Trial.Ran r) = RanLow r

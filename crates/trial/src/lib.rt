@@ -14,8 +14,9 @@ ghost use mathlib.Core.Path.{_≡_};
 ghost use Prim.Native.Nat.{_≤_};
 ghost use lib.ListN.{length};
 ghost use Rattle.position.specs.Standing.{Standing};
-ghost use Rattle.command.specs.Answer.{Low, StateLow};
-ghost use Rattle.execute.specs.Executes.{lentOf, Begun};
+ghost use Rattle.location.specs.Low.{Low};
+ghost use Rattle.command.specs.Answer.{StateLow, lentOf};
+ghost use Rattle.read_command.specs.Reads.{Begun};
 ghost use Rattle.trial.specs.Run.{TicsFirst, RunsOn, Runs, RanLow};
 ghost use Rattle.trial.specs.Trial.{runCall, restartCall, conclusionOf, TrialLow};
 
@@ -49,7 +50,7 @@ fn run_on(
     chain: &[u8],
     arguments: &[u8],
     program: &[u8],
-    restarts: &[u8],
+    restart_arguments: &[u8],
     image: &[u8],
     faults: &[u8],
     limit: usize,
@@ -59,7 +60,11 @@ fn run_on(
     requires { ⌜ Begun (now chain) (now program) (now image) (now faults) ⌝ }
     requires { ⌜ Standing (now image) (s .drive) ⌝ }
     requires { ⌜ StateLow s ⌝ }
-    ensures { λ r. ⌜ RunsOn (now (chain .entry)) (now (arguments .entry)) (now (program .entry)) (now (restarts .entry)) (now (image .entry)) (now (faults .entry)) limit s (now (storage .entry)) r (now (storage .exit)) ⌝ }
+    ensures { λ r.
+        let before = now (storage .entry) in
+        let after = now (storage .exit) in
+        ⌜ RunsOn (now (chain .entry)) (now (arguments .entry)) (now (program .entry)) (now («restart_arguments» .entry))
+        (now (image .entry)) (now (faults .entry)) limit s before r after ⌝ }
     ensures { λ r. ⌜ RanLow r ⌝ }
 {
     let mut here = s;
@@ -70,7 +75,7 @@ fn run_on(
             chain,
             arguments,
             program,
-            restarts,
+            restart_arguments,
             image,
             faults,
             here,
@@ -95,7 +100,7 @@ pub fn run_from(
     chain: &[u8],
     arguments: &[u8],
     program: &[u8],
-    restarts: &[u8],
+    restart_arguments: &[u8],
     image: &[u8],
     faults: &[u8],
     limit: usize,
@@ -104,12 +109,16 @@ pub fn run_from(
 ) -> Ran
     requires { ⌜ Begun (now chain) (now program) (now image) (now faults) ⌝ }
     requires { ⌜ Low from ⌝ }
-    ensures { λ r. ⌜ Runs (now (chain .entry)) (now (arguments .entry)) (now (program .entry)) (now (restarts .entry)) (now (image .entry)) (now (faults .entry)) limit from (now (storage .entry)) r (now (storage .exit)) ⌝ }
+    ensures { λ r.
+        let before = now (storage .entry) in
+        let after = now (storage .exit) in
+        ⌜ Runs (now (chain .entry)) (now (arguments .entry)) (now (program .entry)) (now («restart_arguments» .entry))
+        (now (image .entry)) (now (faults .entry)) limit from before r after ⌝ }
     ensures { λ r. ⌜ RanLow r ⌝ }
 {
     if tic_first(chain, program, from) {
         return Ran::Ended(End {
-            csw: command::csw_at(from, 0, 0x20, 0),
+            csw: location::csw_at(from, 0, channel::PROGRAM_CHECK, 0),
             status: Status::Quiet,
             mask: FileMask::Unset,
         });
@@ -124,7 +133,7 @@ pub fn run_from(
         chain,
         arguments,
         program,
-        restarts,
+        restart_arguments,
         image,
         faults,
         limit,
@@ -140,7 +149,7 @@ fn begin(
     chain: &[u8],
     arguments: &[u8],
     program: &[u8],
-    restarts: &[u8],
+    restart_arguments: &[u8],
     image: &[u8],
     faults: &[u8],
     limit: usize,
@@ -149,7 +158,10 @@ fn begin(
 ) -> Trial
     requires { ⌜ (length (now chain) ≤ 2048) × (length (now program) ≤ 64) ⌝ }
     requires { ⌜ Low from ⌝ }
-    ensures { λ r. ⌜ conclusionOf r (now (storage .exit)) ≡ Rattle.trial.specs.Trial.begin (lentOf (now (chain .entry)) (now (arguments .entry)) (now (program .entry)) (now (restarts .entry))) (now (image .entry)) (now (faults .entry)) limit from (now (storage .entry)) ⌝ }
+    ensures { λ r.
+        let lent = lentOf (now (chain .entry)) (now (arguments .entry)) (now (program .entry)) (now («restart_arguments» .entry)) in
+        ⌜ conclusionOf r (now (storage .exit))
+        ≡ Rattle.trial.specs.Trial.begin lent (now (image .entry)) (now (faults .entry)) limit from (now (storage .entry)) ⌝ }
     ensures { λ r. ⌜ TrialLow r ⌝ }
 {
     if !image::well_formed(image, LAST_CYLINDER) {
@@ -162,7 +174,7 @@ fn begin(
         chain,
         arguments,
         program,
-        restarts,
+        restart_arguments,
         image,
         faults,
         limit,
@@ -180,7 +192,9 @@ pub fn run(
     faults: &[u8],
     limit: usize,
 ) -> Trial
-    ensures { λ r. ⌜ conclusionOf r (now (storage .exit)) ≡ runCall (now (chain .entry)) (now (arguments .entry)) (now (storage .entry)) (now (image .entry)) (now (faults .entry)) limit ⌝ }
+    ensures { λ r.
+        let called = runCall (now (chain .entry)) (now (arguments .entry)) (now (storage .entry)) (now (image .entry)) (now (faults .entry)) limit in
+        ⌜ conclusionOf r (now (storage .exit)) ≡ called ⌝ }
     ensures { λ r. ⌜ TrialLow r ⌝ }
 {
     if !questions::run_areas(
@@ -206,21 +220,21 @@ pub fn run(
     )
 }
 
-// The command limit of a restarted run.
-const RESTART_LIMIT: usize = 8192;
-
 // A run of a restart program: the same questions, the two restart areas included. Its limit is not lent, so question 1 is asked with
 // one that fits.
 pub fn run_restart(
     chain: &[u8],
     arguments: &[u8],
     program: &[u8],
-    restarts: &[u8],
+    restart_arguments: &[u8],
     storage: &mut [u8],
     image: &[u8],
     faults: &[u8],
 ) -> Trial
-    ensures { λ r. ⌜ conclusionOf r (now (storage .exit)) ≡ restartCall (now (chain .entry)) (now (arguments .entry)) (now (program .entry)) (now (restarts .entry)) (now (storage .entry)) (now (image .entry)) (now (faults .entry)) ⌝ }
+    ensures { λ r.
+        let called = restartCall (now (chain .entry)) (now (arguments .entry)) (now (program .entry)) (now («restart_arguments» .entry))
+        (now (storage .entry)) (now (image .entry)) (now (faults .entry)) in
+        ⌜ conclusionOf r (now (storage .exit)) ≡ called ⌝ }
     ensures { λ r. ⌜ TrialLow r ⌝ }
 {
     if !questions::run_areas(
@@ -233,17 +247,17 @@ pub fn run_restart(
     ) {
         return Trial::Refused(Question::Areas);
     }
-    if !questions::restart_areas(program.len(), restarts.len()) {
+    if !questions::restart_areas(program.len(), restart_arguments.len()) {
         return Trial::Refused(Question::Areas);
     }
     begin(
         chain,
         arguments,
         program,
-        restarts,
+        restart_arguments,
         image,
         faults,
-        RESTART_LIMIT,
+        questions::RESTART_LIMIT,
         Location::Restart(0),
         storage,
     )

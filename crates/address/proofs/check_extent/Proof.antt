@@ -1,5 +1,5 @@
 -- `address::check_extent` meets its contract: each answer is a law of `extentAnswer` at the tests that led there. Assumes nothing.
-use mathlib.Core.Path.{_≡_, ap, sym, _∙_}
+use mathlib.Core.Path.{sym, _∙_}
 use Rattle.address.proofs.ExtentAnswer.{extent-size, extent-sound, extent-off}
 use borrow.Author.Needs.{needs}
 use Rattle.address.proofs.check_extent.Statement.{statement}

@@ -1,5 +1,5 @@
 -- `address::extent_of` meets its contract: the four numbers are those that `be16` ensures. Assumes nothing.
-use Rattle.address.specs.Within.{within, soundExtent, extentOf, extentAnswer}
+use Rattle.address.specs.Within.{extentOf}
 use borrow.Author.Needs.{needs}
 use Rattle.address.proofs.extent_of.Statement.{statement}
 use Rattle.address.proofs.extent_of.Tie as tie

@@ -1,5 +1,4 @@
 -- `channel::ccw_at` meets its contract: the four fields are those that the byte readers ensure. Assumes nothing.
-use mathlib.Core.Path.{_≡_, refl, ap, sym, _∙_}
 use Rattle.channel.specs.Ccw.{ccwAt}
 use borrow.Author.Needs.{needs}
 use Rattle.channel.proofs.ccw_at.Statement.{statement}

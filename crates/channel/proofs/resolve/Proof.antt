@@ -1,5 +1,5 @@
 -- `channel::resolve` meets its contract: each answer is a law of `resolve` at the tests that led there. Assumes nothing.
-use mathlib.Core.Path.{_≡_, refl, ap, sym, _∙_}
+use mathlib.Core.Path.{sym, _∙_}
 use borrow.Author.Tests.{not-true, not-false}
 use Rattle.channel.proofs.Answers.{nothing-there, plain-ccw, tic-nowhere, tic-to-tic, tic-lands}
 use borrow.Author.Needs.{needs}
@@ -66,24 +66,24 @@ is-tic-requires-2 c κs = search needs
 
 returns-4 : tie.Need-returns-4
 returns-4 c =
-    let first = c .before .before .before .before .before .before .before .before .before .before in
+    let second = c .before .before .before in
+    let tic = second .before .before .before .before in
+    let first = tic .before .before .before in
     let f = rw (first .c .given .1) at (first .before .before .fetch .ensures .0) in
     let i = rw (first .c .given .1) at (first .before .before .fetch .ensures .1) in
-    let tic = c .before .before .before .before .before .before .before in
     let t = sym (tic .before .is-tic .ensures) ∙ not-false _ (tic .if1 .left) in
-    let second = c .before .before .before in
     let g = rw (second .e .given .1) at (second .before .before .fetch2 .ensures .0) in
     let j = rw (second .e .given .1) at (second .before .before .fetch2 .ensures .1) in
     (λ p e h. tic-to-tic _ _ _ (f p e h) t (second .before .before .before .target .ensures) (g p e h) (sym (c .before .is-tic2 .ensures) ∙ c .if2 .taken), tt)
 
 returns-5 : tie.Need-returns-5
 returns-5 c =
-    let first = c .before .before .before .before .before .before .before .before .before .before in
+    let second = c .before .before .before in
+    let tic = second .before .before .before .before in
+    let first = tic .before .before .before in
     let f = rw (first .c .given .1) at (first .before .before .fetch .ensures .0) in
     let i = rw (first .c .given .1) at (first .before .before .fetch .ensures .1) in
-    let tic = c .before .before .before .before .before .before .before in
     let t = sym (tic .before .is-tic .ensures) ∙ not-false _ (tic .if1 .left) in
-    let second = c .before .before .before in
     let g = rw (second .e .given .1) at (second .before .before .fetch2 .ensures .0) in
     let j = rw (second .e .given .1) at (second .before .before .fetch2 .ensures .1) in
     (λ p e h. tic-lands _ _ _ (f p e h) t (second .before .before .before .target .ensures) (g p e h) (sym (c .before .is-tic2 .ensures) ∙ c .if2 .left), j)

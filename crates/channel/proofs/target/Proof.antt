@@ -1,5 +1,4 @@
 -- `channel::target` meets its contract by cases of the place. Assumes nothing.
-use mathlib.Core.Path.{_≡_, refl, ap, sym, _∙_}
 use borrow.Author.Tests.{lt-ltb, le-ltb}
 use Rattle.base.specs.Choice.{pick}
 use Rattle.channel.specs.Ccw.{target}

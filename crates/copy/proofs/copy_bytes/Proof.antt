@@ -1,6 +1,6 @@
 -- `copy::copy_bytes` meets its contract. Invariant: the bytes passed are copied, the rest is as it was. Measure: the bytes left. Assumes nothing.
 use Prim.Native.Nat.{_≤_, _-_}
-use mathlib.Core.Path.{_≡_, refl, ap, sym, _∙_}
+use mathlib.Core.Path.{_≡_, _∙_}
 use mathlib.Core.List.{_++_}
 use lib.ListN.{length, take, drop, length-set}
 use lib.Seq.{take-length}

@@ -1,7 +1,7 @@
 -- `copy::put` meets its contract: the array's front holds the bytes after the first copy. Assumes nothing.
 use Prim.Native.Nat.{ℕ}
 use native.Mathlib.Omega.{arith}
-use mathlib.Core.Path.{_≡_, refl, ap, sym, _∙_}
+use mathlib.Core.Path.{ap, sym, _∙_}
 use mathlib.Core.List.{List}
 use lib.ListN.{length}
 use Rattle.copy.proofs.Lists.{filled}
@@ -20,21 +20,27 @@ array-share-prefix-between c = search needs
 
 slice-aggregate-copy-bytes-2 : tie.Need-slice-aggregate-copy-bytes-2
 slice-aggregate-copy-bytes-2 c =
-    let s = c .before .before .before .before .before .before .before .args .from .now in
-    sym (ap (λ (l : List ℕ). length l) (filled s _ _ (c .before .before .before .copy-bytes .ensures)))
+    let at-copy-bytes = c .before .before .before in
+    let start = at-copy-bytes .before .before .before .before in
+    let s = start .args .from .now in
+    sym (ap (λ (l : List ℕ). length l) (filled s _ _ (at-copy-bytes .copy-bytes .ensures)))
 
 copy-bytes-requires-2 : tie.Need-copy-bytes-requires-2
 copy-bytes-requires-2 c κs =
-    let s = c .before .before .before .before .before .before .before .args .from .now in
-    rw (filled s _ _ (c .before .before .before .copy-bytes .ensures)) (omega arith)
+    let at-copy-bytes = c .before .before .before in
+    let start = at-copy-bytes .before .before .before .before in
+    let s = start .args .from .now in
+    rw (filled s _ _ (at-copy-bytes .copy-bytes .ensures)) (omega arith)
 
 same-length : tie.Need-same-length
 same-length c = search needs
 
 returns : tie.Need-returns
 returns c =
-    let s = c .before .before .before .before .before .before .before .before .before .before .args .from .now in
-    c .before .before .copy-bytes2 .ensures ∙ rw (filled s _ _ (c .before .before .before .before .before .before .copy-bytes .ensures))
+    let at-copy-bytes = c .before .before .before .before .before .before in
+    let start = at-copy-bytes .before .before .before .before in
+    let s = start .args .from .now in
+    c .before .before .copy-bytes2 .ensures ∙ rw (filled s _ _ (at-copy-bytes .copy-bytes .ensures))
 
 pub put-spec : {M : Type 1} → statement M
 put-spec =

@@ -1,7 +1,6 @@
 -- `execute::execute` meets its contract: by whether the CCW makes a program check. Assumes nothing.
-use mathlib.Core.Path.{_≡_, refl, ap, sym, _∙_}
 use borrow.Author.Tests.{not-true, not-false}
-use Rattle.execute.proofs.Moves.{inside-low}
+use Rattle.read_command.proofs.Moves.{inside-low}
 use Rattle.execute.proofs.Commands.{unchecked, checked, performed}
 use borrow.Author.Needs.{needs}
 use Rattle.execute.proofs.execute.Statement.{statement}
@@ -18,30 +17,37 @@ program-check-requires c κs = let pre = c .before .before .before .before .befo
 
 returns : tie.Need-returns
 returns c =
-    let start = c .before .before .before .before .before .before .before .before .before .before .before .args in
+    let at-command-of = c .before .before .before in
+    let entry = at-command-of .before .before .before .before .before .before .before .before in
+    let start = entry .args in
     let test = c .before .before .sound in
-    let k = c .before .before .before .command-of in
-    (checked (start .chain .now) (start .arguments .now) (start .program .now) (start .restarts .now) _ (start .c) (start .storage .now) (k .result) (test .result) (k .ensures) (test .ensures) (start .image .now) (start .faults .now) _ (c .program-check .result) (not-true _ (c .before .if1 .taken)) (c .program-check .ensures .0), c .program-check .ensures .1 _)
+    let k = at-command-of .command-of in
+    (checked (start .chain .now) (start .arguments .now) (start .program .now) (start .restart-arguments .now) _ (start .c) (start .storage .now) (k .result) (test .result) (k .ensures) (test .ensures) (start .image .now) (start .faults .now) _ (c .program-check .result) (not-true _ (c .before .if1 .taken)) (c .program-check .ensures .0), c .program-check .ensures .1 _)
 
 perform-requires : tie.Need-perform-requires
 perform-requires c κs =
-    let start = c .before .before .before .before .before .before .before .before .before .before .before in
+    let at-command-of = c .before .before .before in
+    let start = at-command-of .before .before .before .before .before .before .before .before in
     let a = start .args in
     let test = c .before .before .sound in
-    let k = c .before .before .before .command-of in
+    let k = at-command-of .command-of in
     let pre = start .pre in
-    (pre .0, (pre .1 .0, (pre .1 .1, (k .ensures, unchecked (a .chain .now) (a .arguments .now) (a .program .now) (a .restarts .now) _ (a .c) (a .storage .now) (k .result) (test .result) (k .ensures) (test .ensures) (not-false _ (c .before .if1 .left))))))
+    (pre .0, (pre .1 .0, (pre .1 .1, (k .ensures, unchecked (a .chain .now) (a .arguments .now) (a .program .now) (a .restart-arguments .now) _ (a .c) (a .storage .now) (k .result) (test .result) (k .ensures) (test .ensures) (not-false _ (c .before .if1 .left))))))
 
 same-length : tie.Need-same-length
 same-length c = search needs
 
 returns-2 : tie.Need-returns-2
 returns-2 c =
-    let start = c .before .before .before .before .before .before .before .before .before .before .before .before .before .before .args in
-    let test = c .before .before .before .before .before .sound in
-    let k = c .before .before .before .before .before .before .command-of in
+    let at-if1 = c .before .before .before .before in
+    let at-sound = at-if1 .before in
+    let at-command-of = at-sound .before in
+    let entry = at-command-of .before .before .before .before .before .before .before .before in
+    let start = entry .args in
+    let test = at-sound .sound in
+    let k = at-command-of .command-of in
     let done = c .before .before .perform in
-    (performed (start .chain .now) (start .arguments .now) (start .program .now) (start .restarts .now) _ (start .c) (start .storage .now) (k .result) (test .result) (k .ensures) (test .ensures) (start .image .now) (start .faults .now) _ (done .result) _ (not-false _ (c .before .before .before .before .if1 .left)) (done .ensures .0), done .ensures .1)
+    (performed (start .chain .now) (start .arguments .now) (start .program .now) (start .restart-arguments .now) _ (start .c) (start .storage .now) (k .result) (test .result) (k .ensures) (test .ensures) (start .image .now) (start .faults .now) _ (done .result) _ (not-false _ (at-if1 .if1 .left)) (done .ensures .0), done .ensures .1)
 
 pub execute-spec : {M : Type 1} → statement M
 execute-spec =

@@ -1,6 +1,6 @@
 -- `execute::perform` meets its contract: by the command. Assumes nothing.
-use mathlib.Core.Path.{_≡_, refl, ap, sym, _∙_}
-use Rattle.execute.proofs.Moves.{inside-low}
+use mathlib.Core.Path.{sym, _∙_}
+use Rattle.read_command.proofs.Moves.{inside-low}
 use Rattle.execute.proofs.Commands.{other-moveless, argument-there, home-ready, record-ready, home-performs, record-performs, other-performs}
 use borrow.Author.Needs.{needs}
 use Rattle.execute.proofs.perform.Statement.{statement}
@@ -14,7 +14,7 @@ read-home-requires c κs =
     let start = c .before .before .before .before .before .before .before .before .before .before in
     let pre = start .pre in
     let code = sym (pre .1 .1 .1 .0) ∙ c .before .enum-told .given .1 in
-    (home-ready _ (start .args .arguments .now) _ (start .args .restarts .now) _ (start .args .c) _ code (pre .0 .short) (pre .1 .0) (pre .1 .1 .1 .1), (pre .0 .whole, pre .1 .1 .0))
+    (home-ready _ (start .args .arguments .now) _ (start .args .restart-arguments .now) _ (start .args .c) _ code (pre .0 .short) (pre .1 .0) (pre .1 .1 .1 .1), (pre .0 .whole, pre .1 .1 .0))
 
 enum-known-k : tie.Need-enum-known-k
 enum-known-k c = search needs
@@ -24,7 +24,7 @@ read-record-requires c κs =
     let start = c .before .before .before .before .before .before .before .before .before .before .before in
     let pre = start .pre in
     let code = sym (pre .1 .1 .1 .0) ∙ c .before .before .k .given .1 in
-    (record-ready _ (start .args .arguments .now) _ (start .args .restarts .now) _ (start .args .c) _ _ code (pre .0 .short) (pre .1 .0) (pre .1 .1 .1 .1), (pre .0, (code, pre .1 .1 .0)))
+    (record-ready _ (start .args .arguments .now) _ (start .args .restart-arguments .now) _ (start .args .c) _ _ code (pre .0 .short) (pre .1 .0) (pre .1 .1 .1 .1), (pre .0, (code, pre .1 .1 .0)))
 
 perform-requires : tie.Need-perform-requires
 perform-requires c κs =
@@ -49,8 +49,9 @@ same-length c = search needs
 
 returns : tie.Need-returns
 returns c =
-    let start = c .before .before .before .before .before .before .before .before .before .before .before .before .before in
-    let code = sym (start .pre .1 .1 .1 .0) ∙ c .before .before .before .before .enum-told .given .1 in
+    let at-enum-told = c .before .before .before .before in
+    let start = at-enum-told .before .before .before .before .before .before .before .before .before in
+    let code = sym (start .pre .1 .1 .1 .0) ∙ at-enum-told .enum-told .given .1 in
     let done = c .before .before .read-home in
     (home-performs _ _ _ _ _ _ _ _ _ (start .args .storage .now) (done .result) _ code (done .ensures .0), done .ensures .1)
 
@@ -59,8 +60,9 @@ same-length-2 c = search needs
 
 returns-2 : tie.Need-returns-2
 returns-2 c =
-    let start = c .before .before .before .before .before .before .before .before .before .before .before .before .before .before in
-    let code = sym (start .pre .1 .1 .1 .0) ∙ c .before .before .before .before .before .k .given .1 in
+    let at-k = c .before .before .before .before .before in
+    let start = at-k .before .before .before .before .before .before .before .before .before in
+    let code = sym (start .pre .1 .1 .1 .0) ∙ at-k .k .given .1 in
     let done = c .before .before .read-record in
     (record-performs _ _ _ _ _ _ _ _ _ (start .args .storage .now) (done .result) _ _ code (done .ensures .0), done .ensures .1)
 

@@ -1,5 +1,5 @@
 -- `explain::answer` meets its contract: the text fits. Assumes nothing.
-use Rattle.intake.proofs.Front.{text-front, counts}
+use Rattle.standard_input.proofs.Front.{text-front, counts}
 use borrow.Author.Needs.{needs}
 use Rattle.explain.proofs.answer.Statement.{statement}
 use Rattle.explain.proofs.answer.Tie as tie

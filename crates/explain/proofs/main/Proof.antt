@@ -1,5 +1,5 @@
 -- `explain::main` meets its contract: the bytes that were read lie in their area. Assumes nothing.
-use Rattle.intake.proofs.Front.{received}
+use Rattle.standard_input.proofs.Front.{received}
 use borrow.Author.Needs.{needs}
 use Rattle.explain.proofs.main.Statement.{statement}
 use Rattle.explain.proofs.main.Tie as tie

@@ -1,5 +1,5 @@
 -- `faults::check_faults` meets its contract: each answer rewrites by the tests that led there. Assumes nothing.
-use mathlib.Core.Path.{_≡_, refl, ap, sym, _∙_}
+use mathlib.Core.Path.{sym, _∙_}
 use borrow.Author.Tests.{not-true, not-false}
 use Rattle.base.specs.Choice.{pick}
 use Rattle.faults.specs.Faults.{faultsAnswer}
@@ -43,22 +43,22 @@ sound-faults-requires c κs = search needs
 returns-4 : tie.Need-returns-4
 unfolding faultsAnswer pick
 returns-4 c =
-    let size = c .before .before .before .before .before .before in
-    let i = sym (size .before .image-fits .ensures) ∙ not-false _ (size .if1 .left) in
-    let room = c .before .before .before .before in
-    let f = sym (room .before .faults-fit .ensures) ∙ not-false _ (room .if2 .left) in
     let form = c .before .before in
+    let room = form .before .before in
+    let size = room .before .before in
+    let i = sym (size .before .image-fits .ensures) ∙ not-false _ (size .if1 .left) in
+    let f = sym (room .before .faults-fit .ensures) ∙ not-false _ (room .if2 .left) in
     let w = sym (form .before .well-formed .ensures) ∙ not-false _ (form .if3 .left) in
     rw (i, f, w, sound-is _ _ _ w (c .before .sound-faults .ensures) (c .if4 .taken))
 
 returns-5 : tie.Need-returns-5
 unfolding faultsAnswer pick
 returns-5 c =
-    let size = c .before .before .before .before .before .before in
-    let i = sym (size .before .image-fits .ensures) ∙ not-false _ (size .if1 .left) in
-    let room = c .before .before .before .before in
-    let f = sym (room .before .faults-fit .ensures) ∙ not-false _ (room .if2 .left) in
     let form = c .before .before in
+    let room = form .before .before in
+    let size = room .before .before in
+    let i = sym (size .before .image-fits .ensures) ∙ not-false _ (size .if1 .left) in
+    let f = sym (room .before .faults-fit .ensures) ∙ not-false _ (room .if2 .left) in
     let w = sym (form .before .well-formed .ensures) ∙ not-false _ (form .if3 .left) in
     rw (i, f, w, sound-is _ _ _ w (c .before .sound-faults .ensures) (c .if4 .left))
 

@@ -1,7 +1,7 @@
 -- `faults::find_fault` meets its contract. Invariant: in a list that decodes, the fault is to be found from here on as from the start.
 -- Measure: the bytes left. Assumes nothing.
-use Prim.Native.Nat.{ℕ, _-_, _≤_}
-use mathlib.Core.Path.{_≡_, refl, ap, sym, _∙_}
+use Prim.Native.Nat.{_-_}
+use mathlib.Core.Path.{_≡_, refl, sym, _∙_}
 use mathlib.Core.Option.{some}
 use mathlib.Core.List.{List}
 use lib.ListN.{length}

@@ -1,5 +1,5 @@
 -- `faults::names` meets its contract: each answer rewrites by the tests that led there. Assumes nothing.
-use mathlib.Core.Path.{_≡_, refl, ap, sym, _∙_}
+use mathlib.Core.Path.{sym, _∙_}
 use borrow.Author.Tests.{not-true, not-false}
 use Rattle.faults.specs.FaultAt.{named}
 use borrow.Author.Needs.{needs}

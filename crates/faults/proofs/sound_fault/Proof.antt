@@ -1,6 +1,6 @@
 -- `faults::sound_fault` meets its contract: in an image that decodes, each answer is a law of `soundFault`. Assumes nothing.
 use native.Mathlib.Omega.{arith}
-use mathlib.Core.Path.{_≡_, refl, ap, sym, _∙_}
+use mathlib.Core.Path.{sym}
 use Rattle.base.proofs.Bytes.{length-part}
 use Rattle.pack.specs.Places.{recordFrom}
 use Rattle.faults.proofs.Sound.{fault-zero, fault-trackless, fault-recordless, fault-at-end, fault-inside}

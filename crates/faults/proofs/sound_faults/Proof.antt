@@ -1,10 +1,9 @@
 -- `faults::sound_faults` meets its contract. Invariant: in an image that decodes, the list is sound if what is left of it is.
 -- Measure: the bytes left. Assumes nothing.
-use Prim.Native.Nat.{ℕ, _-_, _≤_}
-use mathlib.Core.Path.{_≡_, refl, ap, sym, _∙_}
+use Prim.Native.Nat.{_-_}
+use mathlib.Core.Path.{_≡_, refl, sym, _∙_}
 use borrow.Author.Tests.{not-true, not-false}
 use mathlib.Core.Option.{some}
-use mathlib.Core.Bool.{not}
 use lib.ListN.{length}
 use Rattle.pack.specs.Pack.{Decoded, decodeAt}
 use Rattle.faults.specs.Faults.{soundFrom}
@@ -53,9 +52,9 @@ named-from-requires c κs = search needs
 
 returns-3 : tie.Need-returns-3 Inv-loop μ-loop
 returns-3 c =
-    let found = c .before .before .before .before .before .before in
-    let e = sym (found .before .before .fault-at .ensures) ∙ found .l .given .1 in
     let sound = c .before .before .before in
+    let found = sound .before .before .before in
+    let e = sym (found .before .before .fault-at .ensures) ∙ found .l .given .1 in
     let m = rw (c .if2 .taken) at (c .before .named-from .ensures) in
     λ d h.
     sym (found .before .before .before .before .loop .inv d h ∙ sound-again _ _ _ _ e (sym (sound .before .sound-fault .ensures d h) ∙ not-false _ (sound .if1 .left)) m)
@@ -69,9 +68,9 @@ loop-less c =
 
 loop-again : tie.Need-loop-again Inv-loop μ-loop
 loop-again c =
-    let found = c .before .before .before .before .before .before in
-    let e = sym (found .before .before .fault-at .ensures) ∙ found .l .given .1 in
     let sound = c .before .before .before in
+    let found = sound .before .before .before in
+    let e = sym (found .before .before .fault-at .ensures) ∙ found .l .given .1 in
     let m = rw (c .if2 .left) at (c .before .named-from .ensures) in
     λ d h.
     found .before .before .before .before .loop .inv d h ∙ sound-on _ _ _ _ e (sym (sound .before .sound-fault .ensures d h) ∙ not-false _ (sound .if1 .left)) m

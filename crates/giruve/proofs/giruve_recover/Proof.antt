@@ -11,7 +11,7 @@ number-requires c κs = search needs
 returns : tie.Need-returns
 returns c =
     let a = c .before .before .before .before .before .before .before .before .before .args in
-    let k = recoverCall (a .chain .now) (a .report .now) (a .extent .now) (a .storage .now) (a .program .now) (a .arguments .now) in
+    let k = recoverCall (a .chain .now) (a .report .now) (a .extent .now) (a .storage .now) (a .program .now) (a .restart-arguments .now) in
     area-unfit _ _ _ _ k (c .before .if1 .taken) _ (c .number .ensures)
 
 recover-requires : tie.Need-recover-requires
@@ -34,11 +34,14 @@ same-length-4 c = search needs
 
 returns-2 : tie.Need-returns-2
 returns-2 c =
-    let a = c .before .before .before .before .before .before .before .before .before .before .before .before .before .before .before .before .before .before .before .before .before .before .args in
-    let k = recoverCall (a .chain .now) (a .report .now) (a .extent .now) (a .storage .now) (a .program .now) (a .arguments .now) in
-    let r = c .before .before .before .before .before .before .before .before .before .before .recover in
+    let at-recover = c .before .before .before .before .before .before .before .before .before .before in
+    let at-if1 = at-recover .before .before .before .before in
+    let start = at-if1 .before .before .before .before .before .before .before .before in
+    let a = start .args in
+    let k = recoverCall (a .chain .now) (a .report .now) (a .extent .now) (a .storage .now) (a .program .now) (a .restart-arguments .now) in
+    let r = at-recover .recover in
     let put = c .before .before .put in
-    area-fits _ (a .storage .now) (a .program .now) (a .arguments .now) k (c .before .before .before .before .before .before .before .before .before .before .before .before .before .before .if1 .left) (r .result) _ _ _ (r .ensures .0) _ _ (put .ensures .0) (put .ensures .1)
+    area-fits _ (a .storage .now) (a .program .now) (a .restart-arguments .now) k (at-if1 .if1 .left) (r .result) _ _ _ (r .ensures .0) _ _ (put .ensures .0) (put .ensures .1)
 
 pub giruve-recover-spec : {M : Type 1} → statement M
 giruve-recover-spec =

@@ -26,10 +26,13 @@ same-length-2 c = search needs
 
 returns-2 : tie.Need-returns-2
 returns-2 c =
-    let ran = c .before .before .before .before .before .before .run in
-    let a = c .before .before .before .before .before .before .before .before .before .before .before .before .before .before .before .args in
+    let at-run = c .before .before .before .before .before .before in
+    let at-if1 = at-run .before .before in
+    let start = at-if1 .before .before .before .before .before .before .before in
+    let ran = at-run .run in
+    let a = start .args in
     let k = runCall (a .chain .now) (a .arguments .now) (a .storage .now) (a .image .now) (a .faults .now) (a .limit) in
-    fits _ _ k (c .before .before .before .before .before .before .before .before .if1 .left) (ran .result) _ (ran .ensures .0) _ _ (c .before .before .hand-out .ensures)
+    fits _ _ k (at-if1 .if1 .left) (ran .result) _ (ran .ensures .0) _ _ (c .before .before .hand-out .ensures)
 
 pub giruve-run-spec : {M : Type 1} → statement M
 giruve-run-spec =

@@ -26,10 +26,13 @@ same-length-2 c = search needs
 
 returns-2 : tie.Need-returns-2
 returns-2 c =
-    let ran = c .before .before .before .before .before .before .run-restart in
-    let a = c .before .before .before .before .before .before .before .before .before .before .before .before .before .before .before .before .before .args in
-    let k = restartCall (a .chain .now) (a .arguments .now) (a .program .now) (a .restarts .now) (a .storage .now) (a .image .now) (a .faults .now) in
-    fits _ _ k (c .before .before .before .before .before .before .before .before .if1 .left) (ran .result) _ (ran .ensures .0) _ _ (c .before .before .hand-out .ensures)
+    let at-run-restart = c .before .before .before .before .before .before in
+    let at-if1 = at-run-restart .before .before in
+    let start = at-if1 .before .before .before .before .before .before .before .before .before in
+    let ran = at-run-restart .run-restart in
+    let a = start .args in
+    let k = restartCall (a .chain .now) (a .arguments .now) (a .program .now) (a .restart-arguments .now) (a .storage .now) (a .image .now) (a .faults .now) in
+    fits _ _ k (at-if1 .if1 .left) (ran .result) _ (ran .ensures .0) _ _ (c .before .before .hand-out .ensures)
 
 pub giruve-run-restart-spec : {M : Type 1} → statement M
 giruve-run-restart-spec =

@@ -28,7 +28,10 @@ same-length : tie.Need-same-length
 same-length c = search needs
 
 returns-2 : tie.Need-returns-2
-returns-2 c = rw (c .before .before .before .before .before .before .t2 .given .1) (ran-so _ (c .before .before .before .before .before .before .t2 .given .0 .0) _ _ (c .number2 .ensures) (c .before .before .before .put .ensures))
+returns-2 c =
+    let at-put = c .before .before .before in
+    let at-t2 = at-put .before .before .before in
+    rw (at-t2 .t2 .given .1) (ran-so _ (at-t2 .t2 .given .0 .0) _ _ (c .number2 .ensures) (at-put .put .ensures))
 
 pub hand-out-spec : {M : Type 1} → statement M
 hand-out-spec =

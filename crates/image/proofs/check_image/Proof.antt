@@ -1,5 +1,5 @@
 -- `image::check_image` meets its contract: each answer rewrites by the tests that led there. Assumes nothing.
-use mathlib.Core.Path.{_≡_, sym, _∙_}
+use mathlib.Core.Path.{sym, _∙_}
 use borrow.Author.Tests.{not-true, not-false}
 use Rattle.base.specs.Choice.{pick}
 use Rattle.image.specs.Image.{imageAnswer}

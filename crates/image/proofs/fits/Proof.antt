@@ -1,5 +1,5 @@
 -- `image::fits` meets its contract: each answer is a law of `fitsIn`. Assumes nothing.
-use mathlib.Core.Path.{_≡_, ap, sym, _∙_}
+use mathlib.Core.Path.{sym, _∙_}
 use borrow.Author.Tests.{not-true, not-false}
 use Rattle.image.proofs.Pass.{other-track, same-track}
 use borrow.Author.Needs.{needs}

@@ -1,5 +1,4 @@
 -- `image::may_follow` meets its contract by cases. Assumes nothing.
-use mathlib.Core.Path.{_≡_, refl, ap, sym, _∙_}
 use Rattle.image.specs.Image.{follows}
 use borrow.Author.Needs.{needs}
 use Rattle.image.proofs.may_follow.Statement.{statement}

@@ -1,7 +1,7 @@
 -- `image::records_end` meets its contract. Invariant: the table marks the numbers of the records passed, and the image is sound if what
 -- is left is sound behind them. Measure: the bytes left. Assumes nothing.
 use Prim.Native.Nat.{ℕ, _-_, _≤_}
-use mathlib.Core.Path.{_≡_, refl, ap, sym, _∙_}
+use mathlib.Core.Path.{_≡_, refl, sym, _∙_}
 use borrow.Author.Tests.{not-true, not-false}
 use mathlib.Core.List.{List, [], _∷_}
 use lib.ListN.{length, length-set}

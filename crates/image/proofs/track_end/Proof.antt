@@ -1,6 +1,6 @@
 -- `image::track_end` meets its contract: each answer is a law of the pass at the tests that led there. Assumes nothing.
 use native.Mathlib.Omega.{arith}
-use mathlib.Core.Path.{_≡_, refl, ap, sym, _∙_}
+use mathlib.Core.Path.{sym, _∙_}
 use borrow.Author.Tests.{not-true, not-false}
 use Rattle.pack.proofs.Decode.{home-bounds, record-bounds}
 use Rattle.image.proofs.Pass.{track-none, track-descends, track-off, track-empty, track-unzero, track-unfit, track-on}
@@ -51,23 +51,23 @@ enum-told-2 c = search needs
 
 returns-4 : tie.Need-returns-4
 returns-4 c =
-    let home = c .before .before .before .before .before .before .before .before in
-    let e = sym (home .before .before .home-at .ensures) ∙ home .a .given .1 in
-    let order = c .before .before .before .before .before in
-    let f = sym (order .before .may-follow .ensures) ∙ not-false _ (order .if1 .left) in
     let range = c .before .before .before in
+    let order = range .before .before in
+    let home = order .before .before .before in
+    let e = sym (home .before .before .home-at .ensures) ∙ home .a .given .1 in
+    let f = sym (order .before .may-follow .ensures) ∙ not-false _ (order .if1 .left) in
     let g = sym (range .before .on-pack .ensures) ∙ not-false _ (range .if2 .left) in
     track-empty _ _ _ _ _ _ e f g (sym (c .before .before .record-at .ensures .0) ∙ c .enum-told2 .given .1)
 
 returns-5 : tie.Need-returns-5
 returns-5 c =
-    let home = c .before .before .before .before .before .before .before .before .before .before .before in
-    let e = sym (home .before .before .home-at .ensures) ∙ home .a .given .1 in
-    let order = c .before .before .before .before .before .before .before .before in
-    let f = sym (order .before .may-follow .ensures) ∙ not-false _ (order .if1 .left) in
-    let range = c .before .before .before .before .before .before in
-    let g = sym (range .before .on-pack .ensures) ∙ not-false _ (range .if2 .left) in
     let first = c .before .before .before in
+    let range = first .before .before .before in
+    let order = range .before .before in
+    let home = order .before .before .before in
+    let e = sym (home .before .before .home-at .ensures) ∙ home .a .given .1 in
+    let f = sym (order .before .may-follow .ensures) ∙ not-false _ (order .if1 .left) in
+    let g = sym (range .before .on-pack .ensures) ∙ not-false _ (range .if2 .left) in
     let r = sym (first .before .before .record-at .ensures .0) ∙ first .p .given .1 in
     track-unzero _ _ _ _ _ _ e f g _ r (c .if3 .taken)
 
@@ -79,13 +79,13 @@ fits-requires c κs =
 
 returns-6 : tie.Need-returns-6
 returns-6 c =
-    let home = c .before .before .before .before .before .before .before .before .before .before .before .before .before in
-    let e = sym (home .before .before .home-at .ensures) ∙ home .a .given .1 in
-    let order = c .before .before .before .before .before .before .before .before .before .before in
-    let f = sym (order .before .may-follow .ensures) ∙ not-false _ (order .if1 .left) in
-    let range = c .before .before .before .before .before .before .before .before in
-    let g = sym (range .before .on-pack .ensures) ∙ not-false _ (range .if2 .left) in
     let first = c .before .before .before .before .before in
+    let range = first .before .before .before in
+    let order = range .before .before in
+    let home = order .before .before .before in
+    let e = sym (home .before .before .home-at .ensures) ∙ home .a .given .1 in
+    let f = sym (order .before .may-follow .ensures) ∙ not-false _ (order .if1 .left) in
+    let g = sym (range .before .on-pack .ensures) ∙ not-false _ (range .if2 .left) in
     let r = sym (first .before .before .record-at .ensures .0) ∙ first .p .given .1 in
     track-unfit _ _ _ _ _ _ e f g _ r (c .before .before .if3 .left) (sym (c .before .fits2 .ensures) ∙ not-true _ (c .if4 .taken))
 
@@ -103,32 +103,33 @@ enum-told-3 c = search needs
 
 returns-7 : tie.Need-returns-7
 returns-7 c =
-    let home = c .before .before .before .before .before .before .before .before .before .before .before .before .before .before .before .before in
-    let e = sym (home .before .before .home-at .ensures) ∙ home .a .given .1 in
-    let order = c .before .before .before .before .before .before .before .before .before .before .before .before .before in
-    let f = sym (order .before .may-follow .ensures) ∙ not-false _ (order .if1 .left) in
-    let range = c .before .before .before .before .before .before .before .before .before .before .before in
-    let g = sym (range .before .on-pack .ensures) ∙ not-false _ (range .if2 .left) in
-    let first = c .before .before .before .before .before .before .before .before in
-    let r = sym (first .before .before .record-at .ensures .0) ∙ first .p .given .1 in
     let fit = c .before .before .before in
+    let first = fit .before .before .before .before .before in
+    let range = first .before .before .before in
+    let order = range .before .before in
+    let home = order .before .before .before in
+    let e = sym (home .before .before .home-at .ensures) ∙ home .a .given .1 in
+    let f = sym (order .before .may-follow .ensures) ∙ not-false _ (order .if1 .left) in
+    let g = sym (range .before .on-pack .ensures) ∙ not-false _ (range .if2 .left) in
+    let r = sym (first .before .before .record-at .ensures .0) ∙ first .p .given .1 in
     let q = sym (fit .before .fits2 .ensures) ∙ not-false _ (fit .if4 .left) in
     let ends = rw (c .enum-told3 .given .1) at (c .before .before .records-end .ensures) in
     track-on _ _ _ _ _ _ e f g _ r (fit .before .before .if3 .left) q ∙ ends _
 
 returns-8 : tie.Need-returns-8
 returns-8 c =
-    let home = c .before .before .before .before .before .before .before .before .before .before .before .before .before .before .before .before .before in
+    let at-records-end = c .before .before .before in
+    let fit = at-records-end .before in
+    let first = fit .before .before .before .before .before in
+    let range = first .before .before .before in
+    let order = range .before .before in
+    let home = order .before .before .before in
     let e = sym (home .before .before .home-at .ensures) ∙ home .a .given .1 in
-    let order = c .before .before .before .before .before .before .before .before .before .before .before .before .before .before in
     let f = sym (order .before .may-follow .ensures) ∙ not-false _ (order .if1 .left) in
-    let range = c .before .before .before .before .before .before .before .before .before .before .before .before in
     let g = sym (range .before .on-pack .ensures) ∙ not-false _ (range .if2 .left) in
-    let first = c .before .before .before .before .before .before .before .before .before in
     let r = sym (first .before .before .record-at .ensures .0) ∙ first .p .given .1 in
-    let fit = c .before .before .before .before in
     let q = sym (fit .before .fits2 .ensures) ∙ not-false _ (fit .if4 .left) in
-    let ends = rw (c .before .end .given .1) at (c .before .before .before .records-end .ensures) in
+    let ends = rw (c .before .end .given .1) at (at-records-end .records-end .ensures) in
     let b = home-bounds _ _ _ _ e in
     let l = record-bounds _ _ _ r in
     let k = l .behind in

@@ -1,7 +1,7 @@
 -- `image::well_formed` meets its contract. Invariant: the image is well formed if what is left is, behind the track passed.
 -- Measure: the bytes left. Assumes nothing.
-use Prim.Native.Nat.{ℕ, _-_, _≤_}
-use mathlib.Core.Path.{_≡_, refl, ap, sym, _∙_}
+use Prim.Native.Nat.{_-_, _≤_}
+use mathlib.Core.Path.{_≡_, refl, sym, _∙_}
 use lib.ListN.{length}
 use Rattle.image.specs.declared.Previous.the-variants.{Nothing}
 use Rattle.image.specs.Image.{wellFormed, wellFormedFrom}
@@ -42,8 +42,10 @@ loop-less c =
 
 loop-again : tie.Need-loop-again Inv-loop μ-loop
 loop-again c =
-    let t = rw (c .before .at .given .1) at (c .before .before .before .track-end .ensures) in
-    (c .before .before .before .before .before .loop .inv .0 ∙ t .2, t .1)
+    let at-track-end = c .before .before .before in
+    let at-loop = at-track-end .before .before in
+    let t = rw (c .before .at .given .1) at (at-track-end .track-end .ensures) in
+    (at-loop .loop .inv .0 ∙ t .2, t .1)
 
 returns-2 : tie.Need-returns-2 Inv-loop μ-loop
 unfolding wellFormed

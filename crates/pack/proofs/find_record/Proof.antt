@@ -1,10 +1,10 @@
 -- `pack::find_record` meets its contract. Invariant: where the bytes decode, the number is to be found from here on as from the start.
 -- Measure: the bytes left. Assumes nothing.
-use Prim.Native.Nat.{ℕ, _-_, _≤_}
+use Prim.Native.Nat.{_-_}
 use mathlib.Core.Path.{_≡_, refl, sym, _∙_}
 use mathlib.Core.Option.{some}
 use lib.ListN.{length}
-use Rattle.pack.specs.Pack.{Decoded, decodeAt, trackIn, numbered}
+use Rattle.pack.specs.Pack.{Decoded, decodeAt, numbered}
 use Rattle.pack.proofs.Decode.{record-bounds}
 use Rattle.pack.proofs.Lookup.{record-here, record-on, record-none}
 use borrow.Author.Needs.{needs}

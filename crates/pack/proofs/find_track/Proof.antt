@@ -1,10 +1,10 @@
 -- `pack::find_track` meets its contract. Invariant: in an image that decodes, the track is to be found from here on as from the front.
 -- Measure: the bytes left. Assumes nothing.
-use Prim.Native.Nat.{ℕ, _-_, _≤_}
+use Prim.Native.Nat.{_-_, _≤_}
 use mathlib.Core.Path.{_≡_, refl, sym, _∙_}
 use mathlib.Core.Option.{some}
 use lib.ListN.{length}
-use Rattle.pack.specs.Pack.{Decoded, decodeAt, trackIn, numbered}
+use Rattle.pack.specs.Pack.{Decoded, decodeAt, trackIn}
 use Rattle.fields.proofs.FieldAt.{bounds}
 use Rattle.pack.proofs.Lookup.{track-here, track-on, no-more}
 use borrow.Author.Needs.{needs}

@@ -1,5 +1,5 @@
 -- `pack::is_track` meets its contract: each answer is a law of `isTrack`. Assumes nothing.
-use mathlib.Core.Path.{_≡_, sym, _∙_}
+use mathlib.Core.Path.{sym, _∙_}
 use Rattle.pack.proofs.Answers.{no-track, track-same}
 use borrow.Author.Needs.{needs}
 use Rattle.pack.proofs.is_track.Statement.{statement}

@@ -1,5 +1,5 @@
 -- `questions::run_areas` meets its contract: each answer rewrites by the tests that led there. Assumes nothing.
-use mathlib.Core.Path.{_≡_, sym, _∙_}
+use mathlib.Core.Path.{sym, _∙_}
 use borrow.Author.Tests.{not-true, not-false}
 use Rattle.questions.specs.Areas.{runAreas}
 use borrow.Author.Needs.{needs}
@@ -30,9 +30,12 @@ storage-fits-requires c κs = search needs
 returns-3 : tie.Need-returns-3
 unfolding runAreas
 returns-3 c =
+    let at-arguments-fit = c .before .before .before in
+    let at-if1 = at-arguments-fit .before in
+    let at-chain-fits = at-if1 .before in
     rw (
-      sym (c .before .before .before .before .before .chain-fits .ensures) ∙ not-false _ (c .before .before .before .before .if1 .left),
-      sym (c .before .before .before .arguments-fit .ensures) ∙ not-false _ (c .before .before .if2 .left),
+      sym (at-chain-fits .chain-fits .ensures) ∙ not-false _ (at-if1 .if1 .left),
+      sym (at-arguments-fit .arguments-fit .ensures) ∙ not-false _ (c .before .before .if2 .left),
       sym (c .before .storage-fits .ensures) ∙ not-true _ (c .if3 .taken),
     )
 
@@ -42,10 +45,15 @@ image-fits-requires c κs = search needs
 returns-4 : tie.Need-returns-4
 unfolding runAreas
 returns-4 c =
+    let at-storage-fits = c .before .before .before in
+    let at-if2 = at-storage-fits .before in
+    let at-arguments-fit = at-if2 .before in
+    let at-if1 = at-arguments-fit .before in
+    let at-chain-fits = at-if1 .before in
     rw (
-      sym (c .before .before .before .before .before .before .before .chain-fits .ensures) ∙ not-false _ (c .before .before .before .before .before .before .if1 .left),
-      sym (c .before .before .before .before .before .arguments-fit .ensures) ∙ not-false _ (c .before .before .before .before .if2 .left),
-      sym (c .before .before .before .storage-fits .ensures) ∙ not-false _ (c .before .before .if3 .left),
+      sym (at-chain-fits .chain-fits .ensures) ∙ not-false _ (at-if1 .if1 .left),
+      sym (at-arguments-fit .arguments-fit .ensures) ∙ not-false _ (at-if2 .if2 .left),
+      sym (at-storage-fits .storage-fits .ensures) ∙ not-false _ (c .before .before .if3 .left),
       sym (c .before .image-fits .ensures) ∙ not-true _ (c .if4 .taken),
     )
 
@@ -55,11 +63,18 @@ faults-fit-requires c κs = search needs
 returns-5 : tie.Need-returns-5
 unfolding runAreas
 returns-5 c =
+    let at-image-fits = c .before .before .before in
+    let at-if3 = at-image-fits .before in
+    let at-storage-fits = at-if3 .before in
+    let at-if2 = at-storage-fits .before in
+    let at-arguments-fit = at-if2 .before in
+    let at-if1 = at-arguments-fit .before in
+    let at-chain-fits = at-if1 .before in
     rw (
-      sym (c .before .before .before .before .before .before .before .before .before .chain-fits .ensures) ∙ not-false _ (c .before .before .before .before .before .before .before .before .if1 .left),
-      sym (c .before .before .before .before .before .before .before .arguments-fit .ensures) ∙ not-false _ (c .before .before .before .before .before .before .if2 .left),
-      sym (c .before .before .before .before .before .storage-fits .ensures) ∙ not-false _ (c .before .before .before .before .if3 .left),
-      sym (c .before .before .before .image-fits .ensures) ∙ not-false _ (c .before .before .if4 .left),
+      sym (at-chain-fits .chain-fits .ensures) ∙ not-false _ (at-if1 .if1 .left),
+      sym (at-arguments-fit .arguments-fit .ensures) ∙ not-false _ (at-if2 .if2 .left),
+      sym (at-storage-fits .storage-fits .ensures) ∙ not-false _ (at-if3 .if3 .left),
+      sym (at-image-fits .image-fits .ensures) ∙ not-false _ (c .before .before .if4 .left),
       sym (c .before .faults-fit .ensures) ∙ not-true _ (c .if5 .taken),
     )
 
@@ -69,11 +84,19 @@ limit-fits-requires c κs = search needs
 returns-6 : tie.Need-returns-6
 unfolding runAreas
 returns-6 c =
+    let at-if4 = c .before .before .before in
+    let at-image-fits = at-if4 .before in
+    let at-if3 = at-image-fits .before in
+    let at-storage-fits = at-if3 .before in
+    let at-if2 = at-storage-fits .before in
+    let at-arguments-fit = at-if2 .before in
+    let at-if1 = at-arguments-fit .before in
+    let at-chain-fits = at-if1 .before in
     rw (
-      sym (c .before .before .before .before .before .before .before .before .before .before .chain-fits .ensures) ∙ not-false _ (c .before .before .before .before .before .before .before .before .before .if1 .left),
-      sym (c .before .before .before .before .before .before .before .before .arguments-fit .ensures) ∙ not-false _ (c .before .before .before .before .before .before .before .if2 .left),
-      sym (c .before .before .before .before .before .before .storage-fits .ensures) ∙ not-false _ (c .before .before .before .before .before .if3 .left),
-      sym (c .before .before .before .before .image-fits .ensures) ∙ not-false _ (c .before .before .before .if4 .left),
+      sym (at-chain-fits .chain-fits .ensures) ∙ not-false _ (at-if1 .if1 .left),
+      sym (at-arguments-fit .arguments-fit .ensures) ∙ not-false _ (at-if2 .if2 .left),
+      sym (at-storage-fits .storage-fits .ensures) ∙ not-false _ (at-if3 .if3 .left),
+      sym (at-image-fits .image-fits .ensures) ∙ not-false _ (at-if4 .if4 .left),
       sym (c .before .before .faults-fit .ensures) ∙ not-false _ (c .before .if5 .left),
       c .limit-fits .ensures,
     )

@@ -1,6 +1,6 @@
 -- `reading::answer` meets its contract: the storage that is lent is 4,096 zeros, and the text fits. Assumes nothing.
-use Rattle.session.specs.Session.{printed}
-use Rattle.intake.proofs.Front.{text-front, counts}
+use Rattle.reading_session.specs.Session.{printed}
+use Rattle.standard_input.proofs.Front.{text-front, counts}
 use borrow.Author.Needs.{needs}
 use Rattle.reading.proofs.answer.Statement.{statement}
 use Rattle.reading.proofs.answer.Tie as tie

@@ -1,5 +1,5 @@
 -- `recover::areas_fit` meets its contract: area by area. Assumes nothing.
-use mathlib.Core.Path.{_≡_, refl, ap, sym, _∙_}
+use mathlib.Core.Path.{sym, _∙_}
 use borrow.Author.Tests.{not-true, not-false}
 use Rattle.recover.proofs.Calls.{chain-not, storage-not, restart-not, extent-left}
 use borrow.Author.Needs.{needs}
@@ -23,14 +23,20 @@ restart-areas-requires c κs = search needs
 
 returns-3 : tie.Need-returns-3
 returns-3 c =
-    let one = sym (c .before .before .before .before .before .chain-fits .ensures) ∙ not-false _ (c .before .before .before .before .if1 .left) in
-    let two = sym (c .before .before .before .storage-fits .ensures) ∙ not-false _ (c .before .before .if2 .left) in
+    let at-storage-fits = c .before .before .before in
+    let at-if1 = at-storage-fits .before in
+    let at-chain-fits = at-if1 .before in
+    let one = sym (at-chain-fits .chain-fits .ensures) ∙ not-false _ (at-if1 .if1 .left) in
+    let two = sym (at-storage-fits .storage-fits .ensures) ∙ not-false _ (c .before .before .if2 .left) in
     restart-not _ _ _ _ _ one two (sym (c .before .restart-areas .ensures) ∙ not-true _ (c .if3 .taken))
 
 returns-4 : tie.Need-returns-4
 returns-4 c =
-    let one = sym (c .before .before .before .before .before .chain-fits .ensures) ∙ not-false _ (c .before .before .before .before .if1 .left) in
-    let two = sym (c .before .before .before .storage-fits .ensures) ∙ not-false _ (c .before .before .if2 .left) in
+    let at-storage-fits = c .before .before .before in
+    let at-if1 = at-storage-fits .before in
+    let at-chain-fits = at-if1 .before in
+    let one = sym (at-chain-fits .chain-fits .ensures) ∙ not-false _ (at-if1 .if1 .left) in
+    let two = sym (at-storage-fits .storage-fits .ensures) ∙ not-false _ (c .before .before .if2 .left) in
     extent-left _ _ _ _ _ one two (sym (c .before .restart-areas .ensures) ∙ not-false _ (c .if3 .left))
 
 pub areas-fit-spec : {M : Type 1} → statement M

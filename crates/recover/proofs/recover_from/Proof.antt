@@ -1,5 +1,4 @@
 -- `recover::recover_from` meets its contract: the row that fits, then its action. Assumes nothing.
-use mathlib.Core.Path.{_≡_, refl, ap, sym, _∙_}
 use Rattle.recover.proofs.Acts.{no-row, row-chosen}
 use borrow.Author.Needs.{needs}
 use Rattle.recover.proofs.recover_from.Statement.{statement}
@@ -29,7 +28,7 @@ act-requires c κs = search needs
 returns : tie.Need-returns
 returns c =
     let a = c .before .before .before .before .before .before .before .before .before .before .before .args in
-    no-row (a .chain .now) (a .sense .now) (a .csw) (a .first) (a .mask) (a .tries) (a .x) (a .user) (a .storage .now) (a .program .now) (a .arguments .now) _ (c .before .before .action-for .ensures) (c .enum-told .given .1)
+    no-row (a .chain .now) (a .sense .now) (a .csw) (a .first) (a .mask) (a .tries) (a .x) (a .user) (a .storage .now) (a .program .now) (a .restart-arguments .now) _ (c .before .before .action-for .ensures) (c .enum-told .given .1)
 
 same-length : tie.Need-same-length
 same-length c = search needs
@@ -42,8 +41,12 @@ same-length-3 c = search needs
 
 returns-2 : tie.Need-returns-2
 returns-2 c =
-    let a = c .before .before .before .before .before .before .before .before .before .before .before .before .before .before .before .before .before .before .before .before .before .before .args in
-    row-chosen (a .chain .now) (a .sense .now) (a .csw) (a .first) (a .mask) (a .tries) (a .x) (a .user) (a .storage .now) (a .program .now) (a .arguments .now) _ (c .before .before .before .before .before .before .before .before .before .before .before .before .before .action-for .ensures) _ _ (c .before .before .before .before .before .before .before .before .before .before .before .k .given .1) (c .before .before .before .before .before .before .act .ensures)
+    let at-act = c .before .before .before .before .before .before in
+    let at-k = at-act .before .before .before .before .before in
+    let at-action-for = at-k .before .before in
+    let start = at-action-for .before .before .before .before .before .before .before .before .before in
+    let a = start .args in
+    row-chosen (a .chain .now) (a .sense .now) (a .csw) (a .first) (a .mask) (a .tries) (a .x) (a .user) (a .storage .now) (a .program .now) (a .restart-arguments .now) _ (at-action-for .action-for .ensures) _ _ (at-k .k .given .1) (at-act .act .ensures)
 
 pub recover-from-spec : {M : Type 1} → statement M
 recover-from-spec =

@@ -1,5 +1,4 @@
 -- `recover::tried` meets its contract: by the tries made. Assumes nothing.
-use mathlib.Core.Path.{_≡_, refl, ap, sym, _∙_}
 use borrow.Author.Tests.{lt-ltb, le-ltb}
 use Rattle.base.specs.Choice.{pick}
 use Rattle.recover.specs.Recover.{triedOf}

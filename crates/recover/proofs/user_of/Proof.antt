@@ -1,7 +1,6 @@
 -- `recover::user_of` meets its contract: by whether the report has a seek argument. Assumes nothing.
-use mathlib.Core.Path.{_≡_, refl, ap, sym, _∙_}
 use Rattle.base.specs.Choice.{opt}
-use Rattle.home.specs.User.{userIn}
+use Rattle.recovery.specs.Recovery.{userTrack}
 use borrow.Author.Needs.{needs}
 use Rattle.recover.proofs.user_of.Statement.{statement}
 use Rattle.recover.proofs.user_of.Tie as tie
@@ -19,7 +18,7 @@ returns : tie.Need-returns
 returns c = (rw (c .before .before .seek .given .1) (c .user-track .ensures .0), c .user-track .ensures .1)
 
 returns-2 : tie.Need-returns-2
-unfolding userIn opt
+unfolding userTrack opt
 returns-2 c = (rw (c .enum-told .given .1), tt)
 
 pub user-of-spec : {M : Type 1} → statement M

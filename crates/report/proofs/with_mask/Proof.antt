@@ -8,8 +8,8 @@ use borrow.Author.Needs.{needs}
 use Rattle.report.proofs.with_mask.Statement.{statement}
 use Rattle.report.proofs.with_mask.Tie as tie
 
-wanted-at-requires : tie.Need-wanted-at-requires
-wanted-at-requires c κs = search needs
+sized-at-requires : tie.Need-sized-at-requires
+sized-at-requires c κs = search needs
 
 enum-known-start : tie.Need-enum-known-start
 enum-known-start c = search needs
@@ -23,12 +23,12 @@ with-seek-requires c κs = search needs
 returns : tie.Need-returns
 returns c =
     let call = c .before .before .before in
-    (c .with-seek .ensures .0 ∙ mask-missing _ _ _ (sym (call .wanted-at .ensures) ∙ c .before .enum-told .given .1), c .with-seek .ensures .1)
+    (c .with-seek .ensures .0 ∙ mask-missing _ _ _ (sym (call .sized-at .ensures) ∙ c .before .enum-told .given .1), c .with-seek .ensures .1)
 
 shared-slice-read-m : tie.Need-shared-slice-read-m
 shared-slice-read-m c =
     let whole = c .before .before in
-    let w = found-tells _ _ 0x13 1 (sym (whole .before .before .wanted-at .ensures) ∙ whole .start .given .1) in
+    let w = found-tells _ _ 0x13 1 (sym (whole .before .before .sized-at .ensures) ∙ whole .start .given .1) in
     omega (arith, w .next-is, w .inside)
 
 settable-requires : tie.Need-settable-requires
@@ -37,7 +37,7 @@ settable-requires c κs = search needs
 returns-2 : tie.Need-returns-2
 returns-2 c =
     let whole = c .before .before .before .before in
-    (mask-wrong _ _ _ (found-tells _ _ 0x13 1 (sym (whole .before .before .wanted-at .ensures) ∙ whole .start .given .1)) (sym (c .before .settable .ensures) ∙ not-true _ (c .if1 .taken)), tt)
+    (mask-wrong _ _ _ (found-tells _ _ 0x13 1 (sym (whole .before .before .sized-at .ensures) ∙ whole .start .given .1)) (sym (c .before .settable .ensures) ∙ not-true _ (c .if1 .taken)), tt)
 
 with-seek-requires-2 : tie.Need-with-seek-requires-2
 with-seek-requires-2 c κs = search needs
@@ -46,7 +46,7 @@ returns-3 : tie.Need-returns-3
 returns-3 c =
     let whole = c .before .before .before .before .before in (
       c .with-seek2 .ensures .0
-          ∙ mask-here _ _ _ (found-tells _ _ 0x13 1 (sym (whole .before .before .wanted-at .ensures) ∙ whole .start .given .1)) (sym (c .before .before .settable .ensures) ∙ not-false _ (c .before .if1 .left)),
+          ∙ mask-here _ _ _ (found-tells _ _ 0x13 1 (sym (whole .before .before .sized-at .ensures) ∙ whole .start .given .1)) (sym (c .before .before .settable .ensures) ∙ not-false _ (c .before .if1 .left)),
       c .with-seek2 .ensures .1,
     )
 
@@ -54,7 +54,7 @@ pub with-mask-spec : {M : Type 1} → statement M
 with-mask-spec =
     tie.close
     (tie.spec
-    wanted-at-requires
+    sized-at-requires
     enum-known-start
     enum-told
     with-seek-requires

@@ -10,8 +10,8 @@ use Rattle.report.proofs.with_tries.Tie as tie
 returns : tie.Need-returns
 returns c = (tries-end _ _ _ (c .if1 .taken), c .before .before .pre)
 
-wanted-at-requires : tie.Need-wanted-at-requires
-wanted-at-requires c κs = search needs
+sized-at-requires : tie.Need-sized-at-requires
+sized-at-requires c κs = search needs
 
 enum-known-start : tie.Need-enum-known-start
 enum-known-start c = search needs
@@ -22,23 +22,23 @@ enum-told c = search needs
 returns-2 : tie.Need-returns-2
 returns-2 c =
     let call = c .before .before in
-    (tries-missing _ _ _ (call .before .if1 .left) (sym (call .wanted-at .ensures) ∙ c .enum-told .given .1), tt)
+    (tries-missing _ _ _ (call .before .if1 .left) (sym (call .sized-at .ensures) ∙ c .enum-told .given .1), tt)
 
 returns-3 : tie.Need-returns-3
 returns-3 c =
     let whole = c .before .before in
-    (tries-more _ _ _ (found-tells _ _ 0x15 1 (sym (whole .before .before .wanted-at .ensures) ∙ whole .start .given .1)) (c .if2 .taken), tt)
+    (tries-more _ _ _ (found-tells _ _ 0x15 1 (sym (whole .before .before .sized-at .ensures) ∙ whole .start .given .1)) (c .if2 .taken), tt)
 
 byte-requires : tie.Need-byte-requires
 byte-requires c κs =
     let whole = c .before .before in
-    let w = found-tells _ _ 0x15 1 (sym (whole .before .before .wanted-at .ensures) ∙ whole .start .given .1) in
+    let w = found-tells _ _ 0x15 1 (sym (whole .before .before .sized-at .ensures) ∙ whole .start .given .1) in
     omega (arith, w .next-is, w .inside)
 
 returns-4 : tie.Need-returns-4
 returns-4 c =
     let whole = c .before .before .before in
-    let w = found-tells _ _ 0x15 1 (sym (whole .before .before .wanted-at .ensures) ∙ whole .start .given .1) in
+    let w = found-tells _ _ 0x15 1 (sym (whole .before .before .sized-at .ensures) ∙ whole .start .given .1) in
     (tries-here _ _ _ w (c .before .if2 .left) _ (c .byte .ensures .0), bounds-tried (whole .before .before .before .before .before .pre) _)
 
 pub with-tries-spec : {M : Type 1} → statement M
@@ -46,7 +46,7 @@ with-tries-spec =
     tie.close
     (tie.spec
     returns
-    wanted-at-requires
+    sized-at-requires
     enum-known-start
     enum-told
     returns-2

@@ -7,7 +7,6 @@ use lib.ListN.{length, drop, length-set}
 use Rattle.text.specs.Text.{written}
 use Rattle.text.proofs.Written.{put-turn, put-end}
 use borrow.Author.Needs.{needs}
-use native.Mathlib.Omega.{arith}
 use Rattle.text.proofs.put.Statement.{statement}
 use Rattle.text.proofs.put.Tie as tie
 

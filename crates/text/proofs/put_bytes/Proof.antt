@@ -7,7 +7,6 @@ use lib.ListN.{length, drop}
 use Rattle.text.specs.Text.{Puts, bytesText}
 use Rattle.text.proofs.Written.{bytes-turn, bytes-none}
 use borrow.Author.Needs.{needs}
-use native.Mathlib.Omega.{arith}
 use Rattle.text.proofs.put_bytes.Statement.{statement}
 use Rattle.text.proofs.put_bytes.Tie as tie
 
@@ -38,12 +37,14 @@ loop-less c = search needs
 
 loop-again : tie.Need-loop-again Inv-loop μ-loop
 loop-again c =
-    let at-loop = c .before .before .before .before .before .before in
+    let at-byte = c .before .before .before in
+    let at-loop-test = at-byte .before .before in
+    let at-loop = at-loop-test .before in
     let call = c .before .before .put-digits in (
       search needs,
       search needs,
       search needs,
-      λ z q p. at-loop .loop .inv .3 z q (bytes-turn _ _ (c .before .before .before .before .before .loop-test .taken) (c .before .before .before .byte .ensures .0) (call .ensures .0) z q p),
+      λ z q p. at-loop .loop .inv .3 z q (bytes-turn _ _ (at-loop-test .loop-test .taken) (at-byte .byte .ensures .0) (call .ensures .0) z q p),
     )
 
 same-length : tie.Need-same-length Inv-loop μ-loop

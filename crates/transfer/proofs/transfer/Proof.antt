@@ -1,15 +1,17 @@
 -- `transfer::transfer` meets its contract. Invariant: what is left of the read at the CCW that it has come to leaves what the whole read leaves.
 -- Measure: the bytes left; each CCW takes at least one. Assumes nothing.
 use borrow.Author.Tests.{not-true, not-false}
-use Prim.Native.Nat.{ℕ, _+_, _-_, _≤_}
-use mathlib.Core.Path.{_≡_, refl, ap, sym, _∙_}
+use Prim.Native.Nat.{_-_, _≤_}
+use mathlib.Core.Path.{_≡_, refl, sym, _∙_}
 use mathlib.Core.Bool.{true}
-use lib.ListN.{length, drop, length-drop}
+use lib.ListN.{length, drop}
 use Rattle.channel.specs.Ccw.{Lent}
 use Rattle.channel.specs.Walk.{readable}
 use Rattle.channel.specs.Fetch.{InBytes, Inside}
 use Rattle.transfer.specs.Transfer.{transferred}
-use Rattle.transfer.proofs.Through.{rest, positive, same-size, short-at, out-at, broken-at, refused-at, on-at}
+use Rattle.channel.proofs.Readable.{positive}
+use Rattle.location.proofs.NextFits.{inside-next}
+use Rattle.transfer.proofs.Through.{rest, same-size, short-at, out-at, broken-at, refused-at, on-at}
 use borrow.Author.Needs.{needs}
 use native.Mathlib.Omega.{arith}
 use Rattle.transfer.proofs.transfer.Statement.{statement}
@@ -49,11 +51,13 @@ same-length c = search needs
 returns : tie.Need-returns Inv-loop μ-loop
 unfolding transferred rest
 returns c =
-    let at = c .before .before .before .before .before in
+    let at-if1 = c .before .before .before .before in
+    let at = at-if1 .before in
+    let start = at .before .before .before .before .before in
     let i = at .loop .inv in
     let s = at .loop .storage in
-    let m = c .before .before .before .before .before .before .before .before .before .before .args .bytes .now in (
-      λ p u v. short-at p (at .loop .here) (at .loop .word) m (at .loop .from) s _ (i .4) (c .before .before .before .before .if1 .taken) (c .before .before .stretch .ensures) ∙ i .5 p u v,
+    let m = start .args .bytes .now in (
+      λ p u v. short-at p (at .loop .here) (at .loop .word) m (at .loop .from) s _ (i .4) (at-if1 .if1 .taken) (c .before .before .stretch .ensures) ∙ i .5 p u v,
       omega (arith, i .2 .count),
     )
 
@@ -74,17 +78,18 @@ same-length-2 c = search needs
 returns-2 : tie.Need-returns-2 Inv-loop μ-loop
 unfolding transferred rest
 returns-2 c =
-    let at = c .before .before .before .before .before .before .before in
+    let moved = c .before .before .before .before in
+    let at = moved .before .before .before in
+    let start = at .before .before .before .before .before in
     let i = at .loop .inv in
     let s = at .loop .storage in
-    let m = c .before .before .before .before .before .before .before .before .before .before .before .before .args .bytes .now in
-    let moved = c .before .before .before .before in
+    let m = start .args .bytes .now in
     let k = moved .before .before .if1 .left in
     let e = moved .stretch2 .ensures in
     (λ p u v. out-at p (at .loop .here) (at .loop .word) m (at .loop .from) s _ (i .4) k e (sym (c .before .chains-data .ensures) ∙ not-true _ (c .if2 .taken)) ∙ i .5 p u v, omega arith)
 
-behind-requires : tie.Need-behind-requires Inv-loop μ-loop
-behind-requires c κs = c .before .before .before .before .before .before .before .loop .inv .3
+next-requires : tie.Need-next-requires Inv-loop μ-loop
+next-requires c κs = inside-next _ _ _ (c .before .before .before .before .before .before .before .loop .inv .3) (omega arith) (omega arith)
 
 resolve-requires : tie.Need-resolve-requires Inv-loop μ-loop
 resolve-requires c κs = search needs
@@ -98,17 +103,19 @@ same-length-3 c = search needs
 returns-3 : tie.Need-returns-3 Inv-loop μ-loop
 unfolding transferred rest
 returns-3 c =
-    let at = c .before .before .before .before .before .before .before .before .before .before .before .before in
+    let found = c .before in
+    let at-next = found .before .before .before in
+    let chains = at-next .before in
+    let moved = chains .before .before .before .before in
+    let at = moved .before .before .before in
+    let start = at .before .before .before .before .before in
     let i = at .loop .inv in
     let s = at .loop .storage in
-    let m = c .before .before .before .before .before .before .before .before .before .before .before .before .before .before .before .before .before .args .bytes .now in
-    let moved = c .before .before .before .before .before .before .before .before .before in
+    let m = start .args .bytes .now in
     let k = moved .before .before .if1 .left in
     let e = moved .stretch2 .ensures in
-    let chains = c .before .before .before .before .before in
     let f = sym (chains .before .chains-data .ensures) ∙ not-false _ (chains .if2 .left) in
-    let found = c .before in
-    let q = rw (found .x .given .1, c .before .before .before .before .behind .ensures) at (found .before .before .resolve .ensures .0) in
+    let q = rw (found .x .given .1, at-next .next .ensures) at (found .before .before .resolve .ensures .0) in
     (λ p u v. broken-at p (at .loop .here) (at .loop .word) m (at .loop .from) s _ (i .4) k e f _ (q p u v) ∙ i .5 p u v, tt)
 
 enum-known-x-2 : tie.Need-enum-known-x-2 Inv-loop μ-loop
@@ -125,42 +132,48 @@ same-length-4 c = search needs
 returns-4 : tie.Need-returns-4 Inv-loop μ-loop
 unfolding transferred rest
 returns-4 c =
-    let at = c .before .before .before .before .before .before .before .before .before .before .before .before .before .before in
+    let found = c .before .before .before in
+    let at-next = found .before .before .before in
+    let chains = at-next .before in
+    let moved = chains .before .before .before .before in
+    let at = moved .before .before .before in
+    let start = at .before .before .before .before .before in
     let i = at .loop .inv in
     let s = at .loop .storage in
-    let m = c .before .before .before .before .before .before .before .before .before .before .before .before .before .before .before .before .before .before .before .args .bytes .now in
-    let moved = c .before .before .before .before .before .before .before .before .before .before .before in
+    let m = start .args .bytes .now in
     let k = moved .before .before .if1 .left in
     let e = moved .stretch2 .ensures in
-    let chains = c .before .before .before .before .before .before .before in
     let f = sym (chains .before .chains-data .ensures) ∙ not-false _ (chains .if2 .left) in
-    let found = c .before .before .before in
-    let q = rw (found .x2 .given .1, c .before .before .before .before .before .before .behind .ensures) at (found .before .before .resolve .ensures .0) in
+    let q = rw (found .x2 .given .1, at-next .next .ensures) at (found .before .before .resolve .ensures .0) in
     (λ p u v. refused-at p (at .loop .here) (at .loop .word) m (at .loop .from) s _ (i .4) k e f _ _ (q p u v) (sym (c .before .readable .ensures) ∙ not-true _ (c .if3 .taken)) ∙ i .5 p u v, tt)
 
 loop-less : tie.Need-loop-less Inv-loop μ-loop
 loop-less c =
-    let at = c .before .before .before .before .before .before .before .before .before .before .before .before .before .before in
+    let at-if1 = c .before .before .before .before .before .before .before .before .before .before .before .before .before in
+    let at = at-if1 .before in
+    let start = at .before .before .before .before .before in
     let i = at .loop .inv in
     let s = at .loop .storage in
-    let m = c .before .before .before .before .before .before .before .before .before .before .before .before .before .before .before .before .before .before .before .args .bytes .now in
-    let k = c .before .before .before .before .before .before .before .before .before .before .before .before .before .if1 .left in
+    let m = start .args .bytes .now in
+    let k = at-if1 .if1 .left in
     let w = positive _ _ (i .4) in
     omega arith
 
 loop-again : tie.Need-loop-again Inv-loop μ-loop
 loop-again c =
-    let at = c .before .before .before .before .before .before .before .before .before .before .before .before .before .before in
+    let found = c .before .before .before in
+    let at-next = found .before .before .before in
+    let chains = at-next .before in
+    let moved = chains .before .before .before .before in
+    let at = moved .before .before .before in
+    let start = at .before .before .before .before .before in
     let i = at .loop .inv in
     let s = at .loop .storage in
-    let m = c .before .before .before .before .before .before .before .before .before .before .before .before .before .before .before .before .before .before .before .args .bytes .now in
-    let moved = c .before .before .before .before .before .before .before .before .before .before .before in
+    let m = start .args .bytes .now in
     let k = moved .before .before .if1 .left in
     let e = moved .stretch2 .ensures in
-    let chains = c .before .before .before .before .before .before .before in
     let f = sym (chains .before .chains-data .ensures) ∙ not-false _ (chains .if2 .left) in
-    let found = c .before .before .before in
-    let q = rw (found .x2 .given .1, c .before .before .before .before .before .before .behind .ensures) at (found .before .before .resolve .ensures .0) in
+    let q = rw (found .x2 .given .1, at-next .next .ensures) at (found .before .before .resolve .ensures .0) in
     let g = rw (found .x2 .given .1) at (found .before .before .resolve .ensures .1) in
     let r = sym (c .before .readable .ensures) ∙ not-false _ (c .if3 .left) in (
       same-size (at .loop .word) m (at .loop .from) s _ (i .4) k e ∙ i .0,
@@ -188,7 +201,7 @@ transfer-spec =
     chains-data-requires
     same-length-2
     returns-2
-    behind-requires
+    next-requires
     resolve-requires
     enum-known-x
     same-length-3

@@ -22,7 +22,9 @@ slice-aggregate-begin-2 c = search needs
 
 begin-requires : tie.Need-begin-requires
 begin-requires c κs =
-    let h = sym (c .before .before .before .before .run-areas .ensures) ∙ not-false _ (c .before .before .before .if1 .left) in
+    let at-if1 = c .before .before .before in
+    let at-run-areas = at-if1 .before in
+    let h = sym (at-run-areas .run-areas .ensures) ∙ not-false _ (at-if1 .if1 .left) in
     ((short-chain _ _ _ _ _ _ h, omega arith), low-chain)
 
 same-length : tie.Need-same-length
@@ -30,7 +32,9 @@ same-length c = search needs
 
 returns-2 : tie.Need-returns-2
 returns-2 c =
-    let h = sym (c .before .before .before .before .before .before .before .run-areas .ensures) ∙ not-false _ (c .before .before .before .before .before .before .if1 .left) in
+    let at-if1 = c .before .before .before .before .before .before in
+    let at-run-areas = at-if1 .before in
+    let h = sym (at-run-areas .run-areas .ensures) ∙ not-false _ (at-if1 .if1 .left) in
     let begun = c .before .before .begin .ensures in
     (run-fits _ _ _ _ _ _ h _ (begun .0), begun .1)
 

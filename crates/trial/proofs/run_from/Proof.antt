@@ -28,9 +28,10 @@ same-length c = search needs
 
 returns-2 : tie.Need-returns-2
 returns-2 c =
-    let t = c .before .before .before .before .before .before .tic-first .ensures in
     let ran = c .before .before in
-    let start = c .before .before .before .before in
+    let start = ran .before .before in
+    let at-tic-first = start .before .before in
+    let t = at-tic-first .tic-first .ensures in
     (begun-so _ _ _ _ _ _ _ _ _ (start .initial .result) (start .initial .ensures .0) (sym (start .before .if1 .left) ∙ t _ refl refl) (ran .run-on .result) _ (ran .run-on .ensures .0), ran .run-on .ensures .1)
 
 pub run-from-spec : {M : Type 1} → statement M

@@ -10,14 +10,14 @@ use Rattle.trial.proofs.run_on.Statement.{statement}
 use Rattle.trial.proofs.run_on.Tie as tie
 
 abbrev Inv-loop : tie.InvT-loop
-Inv-loop chain arguments program restarts image faults limit storage₀ here₀ left₀ storage here left =
+Inv-loop chain arguments program restartArguments image faults limit storage₀ here₀ left₀ storage here left =
     (length storage ≡ length storage₀)
     × Standing image (here .drive)
     × StateLow here
-    × Alike chain arguments program restarts image faults left here storage left₀ here₀ storage₀
+    × Alike chain arguments program restartArguments image faults left here storage left₀ here₀ storage₀
 
 abbrev μ-loop : tie.MeasureT-loop
-μ-loop chain arguments program restarts image faults limit storage₀ here₀ left₀ storage here left = left
+μ-loop chain arguments program restartArguments image faults limit storage₀ here₀ left₀ storage here left = left
 
 loop-holds : tie.Need-loop-holds Inv-loop μ-loop
 loop-holds c =

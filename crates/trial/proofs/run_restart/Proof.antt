@@ -23,7 +23,9 @@ returns-2 c =
 
 begin-requires : tie.Need-begin-requires
 begin-requires c κs =
-    let h = sym (c .before .before .before .before .run-areas .ensures) ∙ not-false _ (c .before .before .before .if1 .left) in
+    let at-if1 = c .before .before .before in
+    let at-run-areas = at-if1 .before in
+    let h = sym (at-run-areas .run-areas .ensures) ∙ not-false _ (at-if1 .if1 .left) in
     let g = sym (c .before .before .restart-areas .ensures) ∙ not-false _ (c .before .if2 .left) in
     ((short-chain _ _ _ _ _ _ h, short-program _ _ g), low-restart)
 
@@ -32,8 +34,12 @@ same-length c = search needs
 
 returns-3 : tie.Need-returns-3
 returns-3 c =
-    let h = sym (c .before .before .before .before .before .before .before .run-areas .ensures) ∙ not-false _ (c .before .before .before .before .before .before .if1 .left) in
-    let g = sym (c .before .before .before .before .before .restart-areas .ensures) ∙ not-false _ (c .before .before .before .before .if2 .left) in
+    let at-if2 = c .before .before .before .before in
+    let at-restart-areas = at-if2 .before in
+    let at-if1 = at-restart-areas .before in
+    let at-run-areas = at-if1 .before in
+    let h = sym (at-run-areas .run-areas .ensures) ∙ not-false _ (at-if1 .if1 .left) in
+    let g = sym (at-restart-areas .restart-areas .ensures) ∙ not-false _ (at-if2 .if2 .left) in
     let begun = c .before .before .begin .ensures in
     (restart-fits _ _ _ _ _ _ _ h g _ (begun .0), begun .1)
 

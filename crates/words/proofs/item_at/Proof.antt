@@ -33,7 +33,10 @@ loop-less : tie.Need-loop-less Inv-loop μ-loop
 loop-less c = search needs
 
 loop-again : tie.Need-loop-again Inv-loop μ-loop
-loop-again c = (search needs, rest-turn _ _ _ (c .before .before .before .loop-test .taken) (c .before .before .if1 .left) (c .fewer .ensures .0) ∙ c .before .before .before .before .loop .inv .1)
+loop-again c =
+    let at-loop-test = c .before .before .before in
+    let at-loop = at-loop-test .before in
+    (search needs, rest-turn _ _ _ (at-loop-test .loop-test .taken) (c .before .before .if1 .left) (c .fewer .ensures .0) ∙ at-loop .loop .inv .1)
 
 returns-2 : tie.Need-returns-2 Inv-loop μ-loop
 returns-2 c = (rest-end _ _ _ (c .loop-test .left) ∙ c .before .loop .inv .1, search needs)

@@ -1,8 +1,5 @@
 -- `words::put_item` meets its contract: the bytes between the two places are the text. Assumes nothing.
 use native.Mathlib.Omega.{arith}
-use Rattle.text.specs.Text.{Puts}
-use Prim.Native.Nat.{_≤_}
-use lib.ListN.{length, take, drop}
 use Rattle.words.proofs.Items.{item-part, part-short}
 use borrow.Author.Needs.{needs}
 use native.Mathlib.Omega.{arith}
@@ -28,9 +25,10 @@ put-requires : tie.Need-put-requires
 put-requires c κs =
     let second = c .before .before in
     let first = second .before in
-    let a = first .before .before .before .args in
-    let n = part-short 64 (a .list .now) (a .i) _ _ (first .item-at .ensures .0) (second .end-of .ensures .0) (first .before .before .before .pre .1) in
-    omega (arith, n, first .before .before .before .pre .0)
+    let start = first .before .before .before in
+    let a = start .args in
+    let n = part-short 64 (a .list .now) (a .i) _ _ (first .item-at .ensures .0) (second .end-of .ensures .0) (start .pre .1) in
+    omega (arith, n, start .pre .0)
 
 same-length : tie.Need-same-length
 same-length c = search needs
@@ -40,8 +38,9 @@ returns c =
     let call = c .before .before in
     let second = call .before .before .before in
     let first = second .before in
-    let a = first .before .before .before .args in
-    let n = part-short 64 (a .list .now) (a .i) _ _ (first .item-at .ensures .0) (second .end-of .ensures .0) (first .before .before .before .pre .1) in
+    let start = first .before .before .before in
+    let a = start .args in
+    let n = part-short 64 (a .list .now) (a .i) _ _ (first .item-at .ensures .0) (second .end-of .ensures .0) (start .pre .1) in
     let e = item-part (a .list .now) (a .i) _ _ (first .item-at .ensures .0) (second .end-of .ensures .0) in
     (rw (← e) (call .put .ensures .0), omega (arith, n, call .put .ensures .1))
 

@@ -1,6 +1,6 @@
 -- `address::Address::before` meets its contract: each answer rewrites by the tests that led there. Assumes nothing.
-use borrow.Author.Tests.{lt-ltb, le-ltb, le-leb, lt-leb, eq-eqb, ne-eqb, not-true, not-false}
-use Rattle.address.specs.Order.{same, before, onPack}
+use borrow.Author.Tests.{lt-ltb, le-ltb, eq-eqb, ne-eqb}
+use Rattle.address.specs.Order.{before}
 use Rattle.address.proofs.Address.before.Statement.{statement}
 use Rattle.address.proofs.Address.before.Tie as tie
 

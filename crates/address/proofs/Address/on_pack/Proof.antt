@@ -1,6 +1,6 @@
 -- `address::Address::on_pack` meets its contract: each answer rewrites by the tests that led there. Assumes nothing.
-use borrow.Author.Tests.{lt-ltb, le-ltb, le-leb, lt-leb, eq-eqb, ne-eqb, not-true, not-false}
-use Rattle.address.specs.Order.{same, before, onPack}
+use borrow.Author.Tests.{le-leb, lt-leb}
+use Rattle.address.specs.Order.{onPack}
 use Rattle.address.proofs.Address.on_pack.Statement.{statement}
 use Rattle.address.proofs.Address.on_pack.Tie as tie
 

@@ -1,7 +1,6 @@
 -- `address::Extent::holds` meets its contract: each answer rewrites by the tests that led there. Assumes nothing.
-use borrow.Author.Tests.{lt-ltb, le-ltb, le-leb, lt-leb, eq-eqb, ne-eqb, not-true, not-false}
-use Rattle.address.specs.Within.{within, soundExtent, extentOf, extentAnswer}
-use mathlib.Core.Path.{_≡_, sym, _∙_}
+use Rattle.address.specs.Within.{within}
+use mathlib.Core.Path.{sym, _∙_}
 use borrow.Author.Needs.{needs}
 use Rattle.address.proofs.Extent.holds.Statement.{statement}
 use Rattle.address.proofs.Extent.holds.Tie as tie

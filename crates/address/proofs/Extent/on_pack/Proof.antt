@@ -1,7 +1,7 @@
 -- `address::Extent::on_pack` meets its contract: each answer rewrites by the tests that led there. Assumes nothing.
-use borrow.Author.Tests.{lt-ltb, le-ltb, le-leb, lt-leb, eq-eqb, ne-eqb, not-true, not-false}
-use Rattle.address.specs.Within.{within, soundExtent, extentOf, extentAnswer}
-use mathlib.Core.Path.{_≡_, sym, _∙_}
+use borrow.Author.Tests.{not-true, not-false}
+use Rattle.address.specs.Within.{soundExtent}
+use mathlib.Core.Path.{sym, _∙_}
 use borrow.Author.Needs.{needs}
 use Rattle.address.proofs.Extent.on_pack.Statement.{statement}
 use Rattle.address.proofs.Extent.on_pack.Tie as tie
@@ -30,8 +30,10 @@ before-requires c κs = search needs
 returns-3 : tie.Need-returns-3
 unfolding soundExtent
 returns-3 c =
+    let at-if1 = c .before .before .before in
+    let at-on-pack = at-if1 .before in
     rw (
-      sym (c .before .before .before .before .on-pack .ensures) ∙ not-false _ (c .before .before .before .if1 .left),
+      sym (at-on-pack .on-pack .ensures) ∙ not-false _ (at-if1 .if1 .left),
       sym (c .before .before .on-pack2 .ensures) ∙ not-false _ (c .before .if2 .left),
       c .before2 .ensures,
     )

@@ -1,6 +1,4 @@
 -- `channel::Ccw::formed` meets its contract: the mask 7 is the remainder by 8. Assumes nothing.
-use mathlib.Core.Path.{_≡_, refl, ap, sym, _∙_}
-use Prim.Native.Nat.{_%_}
 use lib.Bits.{and-mask}
 use Rattle.channel.proofs.Answers.{no-count, some-count}
 use Rattle.channel.proofs.Ccw.formed.Statement.{statement}

@@ -1,5 +1,5 @@
 -- `channel::Ccw::incorrect_length` meets its contract: each answer is a law of `incorrectLength`. Assumes nothing.
-use mathlib.Core.Path.{_≡_, refl, ap, sym, _∙_}
+use mathlib.Core.Path.{_∙_}
 use Rattle.channel.proofs.Answers.{over-length, exact-length, short-length}
 use borrow.Author.Needs.{needs}
 use Rattle.channel.proofs.Ccw.incorrect_length.Statement.{statement}

@@ -1,5 +1,5 @@
 -- `channel::Ccw::is_tic` meets its contract by definition. Assumes nothing.
-use mathlib.Core.Path.{_≡_, refl, ap, sym, _∙_}
+use mathlib.Core.Path.{refl}
 use Rattle.channel.specs.Ccw.{isTic}
 use Rattle.channel.proofs.Ccw.is_tic.Statement.{statement}
 use Rattle.channel.proofs.Ccw.is_tic.Tie as tie

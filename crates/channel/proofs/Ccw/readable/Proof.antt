@@ -1,5 +1,5 @@
 -- `channel::Ccw::readable` meets its contract: each answer is a law of `readable`. Assumes nothing.
-use mathlib.Core.Path.{_≡_, refl, ap, sym, _∙_}
+use mathlib.Core.Path.{sym, _∙_}
 use borrow.Author.Tests.{not-true, not-false}
 use Rattle.channel.proofs.Answers.{unformed, skipped, in-range}
 use borrow.Author.Needs.{needs}
@@ -22,7 +22,10 @@ add-result : tie.Need-add-result
 add-result c = search needs
 
 returns-3 : tie.Need-returns-3
-returns-3 c = in-range _ _ (sym (c .before .before .before .before .formed .ensures) ∙ not-false _ (c .before .before .before .if1 .left)) (sym (c .before .before .skips .ensures) ∙ c .before .if2 .left)
+returns-3 c =
+    let at-if1 = c .before .before .before in
+    let at-formed = at-if1 .before in
+    in-range _ _ (sym (at-formed .formed .ensures) ∙ not-false _ (at-if1 .if1 .left)) (sym (c .before .before .skips .ensures) ∙ c .before .if2 .left)
 
 pub readable-spec : {M : Type 1} → statement M
 readable-spec =

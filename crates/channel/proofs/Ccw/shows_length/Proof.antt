@@ -1,5 +1,5 @@
 -- `channel::Ccw::shows_length` meets its contract: each answer is a law of `showsLength`. Assumes nothing.
-use mathlib.Core.Path.{_≡_, refl, ap, sym, _∙_}
+use mathlib.Core.Path.{sym, _∙_}
 use borrow.Author.Tests.{not-true, not-false}
 use Rattle.channel.proofs.Answers.{unsuppressed, suppressed}
 use borrow.Author.Needs.{needs}

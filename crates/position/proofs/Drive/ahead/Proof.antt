@@ -18,8 +18,10 @@ second-requires c κs = search needs
 
 returns : tie.Need-returns
 returns c =
-    let a = c .before .before .before .before .before .args in
-    let h = rw (c .before .enum-told .given .1) at (c .before .before .before .here-unless-zero .ensures) in
+    let at-here-unless-zero = c .before .before .before in
+    let start = at-here-unless-zero .before .before in
+    let a = start .args in
+    let h = rw (c .before .enum-told .given .1) at (at-here-unless-zero .here-unless-zero .ensures) in
     ahead-second (a .image .now) (a .self) (c .second .result) (c .second .ensures) h
 
 returns-2 : tie.Need-returns-2

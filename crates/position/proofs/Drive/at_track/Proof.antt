@@ -18,8 +18,9 @@ enum-told c = search needs
 returns : tie.Need-returns
 unfolding Abstract.atIndex
 returns c =
-    let start = c .before .before .before .before .before in
-    (refl, index-on _ _ _ (start .pre .0) (start .pre .1) _ (rw (c .before .at .given .1) at (c .before .before .before .find-track .ensures)))
+    let at-find-track = c .before .before .before in
+    let start = at-find-track .before .before in
+    (refl, index-on _ _ _ (start .pre .0) (start .pre .1) _ (rw (c .before .at .given .1) at (at-find-track .find-track .ensures)))
 
 returns-2 : tie.Need-returns-2
 unfolding Abstract.atIndex

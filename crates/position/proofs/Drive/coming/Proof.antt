@@ -22,7 +22,9 @@ enum-told c = search needs
 
 round-requires : tie.Need-round-requires
 round-requires c κs =
-    (c .before .before .before .before .before .before .pre, (not-false _ (c .before .before .before .if1 .left), sym (c .before .before .record-at .ensures .0) ∙ c .enum-told .given .1))
+    let at-if1 = c .before .before .before in
+    let start = at-if1 .before .before .before in
+    (start .pre, (not-false _ (at-if1 .if1 .left), sym (c .before .before .record-at .ensures .0) ∙ c .enum-told .given .1))
 
 returns-2 : tie.Need-returns-2
 returns-2 c =

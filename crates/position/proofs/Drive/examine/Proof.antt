@@ -35,33 +35,39 @@ names-requires c κs = search needs
 
 stepped-requires : tie.Need-stepped-requires
 stepped-requires c κs =
-    let call = c .before .before .before .before .before .before in
-    let a = rw (c .before .before .before .before .x .given .1) at (call .coming .ensures) in
-    (c .before .before .before .before .before .before .before .before .pre .0, (a .0, omega arith))
+    let at-x = c .before .before .before .before in
+    let call = at-x .before .before in
+    let start = call .before .before in
+    let a = rw (at-x .x .given .1) at (call .coming .ensures) in
+    (start .pre .0, (a .0, omega arith))
 
 returns-2 : tie.Need-returns-2
 returns-2 c =
-    let call = c .before .before .before .before .before .before .before in
-    let a = rw (c .before .before .before .before .before .x .given .1) at (call .coming .ensures) in
-    let start = c .before .before .before .before .before .before .before .before .before in
+    let at-x = c .before .before .before .before .before in
+    let call = at-x .before .before in
+    let start = call .before .before in
+    let a = rw (at-x .x .given .1) at (call .coming .ensures) in
     let g = start .pre .1 in
     let q = names-is _ _ _ _ _ _ _ (g .1) (g .3) ∙ sym (c .before .before .names .ensures) in
-    (examines-equal _ (start .args .self) (c .before .before .before .before .before .x .given .0 .0) _ (a .1) _ _ q (c .stepped .result) (c .before .if1 .taken) (c .stepped .ensures .0), c .stepped .ensures .1)
+    (examines-equal _ (start .args .self) (at-x .x .given .0 .0) _ (a .1) _ _ q (c .stepped .result) (c .before .if1 .taken) (c .stepped .ensures .0), c .stepped .ensures .1)
 
 stepped-requires-2 : tie.Need-stepped-requires-2
 stepped-requires-2 c κs =
-    let call = c .before .before .before .before .before .before in
-    let a = rw (c .before .before .before .before .x .given .1) at (call .coming .ensures) in
-    (c .before .before .before .before .before .before .before .before .pre .0, (a .0, a .2))
+    let at-x = c .before .before .before .before in
+    let call = at-x .before .before in
+    let start = call .before .before in
+    let a = rw (at-x .x .given .1) at (call .coming .ensures) in
+    (start .pre .0, (a .0, a .2))
 
 returns-3 : tie.Need-returns-3
 returns-3 c =
-    let call = c .before .before .before .before .before .before .before in
-    let a = rw (c .before .before .before .before .before .x .given .1) at (call .coming .ensures) in
-    let start = c .before .before .before .before .before .before .before .before .before in
+    let at-x = c .before .before .before .before .before in
+    let call = at-x .before .before in
+    let start = call .before .before in
+    let a = rw (at-x .x .given .1) at (call .coming .ensures) in
     let g = start .pre .1 in
     let q = names-is _ _ _ _ _ _ _ (g .1) (g .3) ∙ sym (c .before .before .names .ensures) in
-    (examines-unequal _ (start .args .self) (c .before .before .before .before .before .x .given .0 .0) _ (a .1) _ _ q (c .stepped2 .result) (c .before .if1 .left) (c .stepped2 .ensures .0), c .stepped2 .ensures .1)
+    (examines-unequal _ (start .args .self) (at-x .x .given .0 .0) _ (a .1) _ _ q (c .stepped2 .result) (c .before .if1 .left) (c .stepped2 .ensures .0), c .stepped2 .ensures .1)
 
 pub examine-spec : {M : Type 1} → statement M
 examine-spec =

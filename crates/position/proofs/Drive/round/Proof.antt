@@ -28,9 +28,9 @@ returns-2 c =
 
 returns-3 : tie.Need-returns-3
 returns-3 c =
-    let start = c .before .before .before .before .before .before .before in
-    let o = start .pre .0 .on (start .pre .1 .0) in
     let call = c .before .before .before in
+    let start = call .before .before .before .before in
+    let o = start .pre .0 .on (start .pre .1 .0) in
     let e = c .before .p .given .1 in
     search-zero _ _ (o .0) (o .1) (start .pre .1 .1) (start .pre .0 .few) (call .before .if1 .left) _ (sym (call .record-at .ensures .0) ∙ e) (rw e at (call .record-at .ensures .1))
 

@@ -28,15 +28,17 @@ enum-told-2 c = search needs
 
 returns-2 : tie.Need-returns-2
 returns-2 c =
-    let call = c .before .before .before .before .before .before in
-    let e = c .before .before .before .before .zero .given .1 in
+    let at-zero = c .before .before .before .before in
+    let call = at-zero .before .before in
+    let e = at-zero .zero .given .1 in
     second-none _ _ _ (sym (call .record-at .ensures .0) ∙ e) (rw e at (call .record-at .ensures .1)) (sym (c .before .before .record-at2 .ensures .0) ∙ c .enum-told2 .given .1)
 
 returns-3 : tie.Need-returns-3
 returns-3 c =
-    let call = c .before .before .before .before .before .before .before in
-    let e = c .before .before .before .before .before .zero .given .1 in
     let call2 = c .before .before .before in
+    let at-zero = call2 .before .before in
+    let call = at-zero .before .before in
+    let e = at-zero .zero .given .1 in
     let f = c .before .p .given .1 in
     second-seen _ _ _ (sym (call .record-at .ensures .0) ∙ e) (rw e at (call .record-at .ensures .1)) _ (sym (call2 .record-at2 .ensures .0) ∙ f) (rw f at (call2 .record-at2 .ensures .1))
 

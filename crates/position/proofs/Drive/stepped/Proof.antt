@@ -10,7 +10,7 @@ add-t9 : tie.Need-add-t9
 add-t9 c = search needs
 
 returns : tie.Need-returns
-unfolding Abstract.behind
+unfolding Abstract.movedPast
 returns c = let start = c .before .before .before in (refl, steps _ _ _ _ _ (start .pre .0) (start .pre .1 .0) (start .pre .1 .1))
 
 pub stepped-spec : {M : Type 1} → statement M

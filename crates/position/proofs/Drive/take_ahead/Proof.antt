@@ -22,16 +22,19 @@ returns c =
 
 stepped-requires : tie.Need-stepped-requires
 stepped-requires c κs =
-    let start = c .before .before .before .before .before .before in
+    let at-ahead = c .before .before .before .before in
+    let start = at-ahead .before .before in
     let o = start .pre .0 .on (start .pre .1 .0) in
-    let a = rw (c .before .before .x .given .1) at (c .before .before .before .before .ahead .ensures) in
+    let a = rw (c .before .before .x .given .1) at (at-ahead .ahead .ensures) in
     (start .pre .0, ((o .0, o .1, a (o .0) (o .1) .0), omega arith))
 
 returns-2 : tie.Need-returns-2
 returns-2 c =
-    let start = c .before .before .before .before .before .before .before in
+    let at-x = c .before .before .before in
+    let at-ahead = at-x .before .before in
+    let start = at-ahead .before .before in
     let o = start .pre .0 .on (start .pre .1 .0) in
-    let a = rw (c .before .before .before .x .given .1) at (c .before .before .before .before .before .ahead .ensures) in
+    let a = rw (at-x .x .given .1) at (at-ahead .ahead .ensures) in
     let x = a (o .0) (o .1) .0 in
     (take-seen _ _ _ _ (o .0) (o .1) (start .pre .1 .1) _ (c .stepped .result) a (c .stepped .ensures .0), (c .stepped .ensures .1, x .bounds, (_, x .found), belongs _ _ (o .0) (o .1) _ x))
 

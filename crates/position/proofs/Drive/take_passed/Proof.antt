@@ -29,18 +29,19 @@ sub-t8 c =
 
 stepped-requires : tie.Need-stepped-requires
 stepped-requires c κs =
-    let start = c .before .before .before .before .before .before in
-    let o = start .pre .0 .on (start .pre .1 .0) in
     let call = c .before .before .before .before in
+    let start = call .before .before in
+    let o = start .pre .0 .on (start .pre .1 .0) in
     let e = c .before .before .p .given .1 in
     (start .pre .0, ((o .0, o .1, just-spot _ _ (o .0) (o .1) (start .pre .1 .1) _ (sym (call .record-at .ensures .0) ∙ e) (rw e at (call .record-at .ensures .1))), omega arith))
 
 returns-2 : tie.Need-returns-2
 returns-2 c =
-    let start = c .before .before .before .before .before .before .before in
+    let at-p = c .before .before .before in
+    let call = at-p .before .before in
+    let start = call .before .before in
     let o = start .pre .0 .on (start .pre .1 .0) in
-    let call = c .before .before .before .before .before in
-    let e = c .before .before .before .p .given .1 in
+    let e = at-p .p .given .1 in
     let w = rw e at (call .record-at .ensures .1) in
     let found = sym (call .record-at .ensures .0) ∙ e in
     let x = just-spot _ _ (o .0) (o .1) (start .pre .1 .1) _ found w in

@@ -1,0 +1,91 @@
+-- Equations of `run` and `notes`.
+--   run-goes               a run whose first command goes on
+--   run-ends               whose first command ends it
+--   run-cuts               whose first command is cut
+--   run-again              `run-goes` with a number of commands above 0
+--   run-ended              `run-ends` with such a number
+--   run-cut-off            `run-cuts` with such a number
+--   run-none               no command is left
+--   notes-goes-some, notes-goes-none, notes-ends-some, notes-ends-none, notes-cuts-some, notes-cuts-none
+--                          what is noted, by the first command and its note
+--   notes-few              at most one note for each command
+use Prim.Native.Nat.{ℕ, zero, suc, _-_, _≤_, _<_}
+use mathlib.Core.Path.{_≡_, refl}
+use mathlib.Core.Option.{Option, none, some}
+use mathlib.Core.List.{[], _∷_}
+use lib.ListN.{length}
+use native.Mathlib.Omega.{arith}
+use Rattle.base.specs.Choice.{opt}
+use Rattle.abstract_machine.specs.Machine.{Stepped, goes, ends, cuts, ended, cut, limit, run, notes}
+
+module _ {S E C : Type 0} (step : S → Stepped S E C) where
+  pub run-goes : (n : ℕ) (s t : S) → step s ≡ goes t → run step (suc n) s ≡ run step n t
+  unfolding run
+  run-goes n s t h = rw (h, run)
+
+  pub run-ends : (n : ℕ) (s : S) (e : E) → step s ≡ ends e → run step (suc n) s ≡ ended e
+  unfolding run
+  run-ends n s e h = rw (h, run)
+
+  pub run-cuts : (n : ℕ) (s : S) (c : C) → step s ≡ cuts c → run step (suc n) s ≡ cut c
+  unfolding run
+  run-cuts n s c h = rw (h, run)
+
+  -- ---- with a number of commands above 0
+
+  pub run-again : (n : ℕ) (s t : S) → 0 < n → step s ≡ goes t → run step n s ≡ run step (n - 1) t
+  run-again zero s t h q = absurd (omega arith)
+  run-again (suc n) s t h q = let e : suc n - 1 ≡ n = omega arith in rw e (run-goes n s t q)
+
+  pub run-ended : (n : ℕ) (s : S) (e : E) → 0 < n → step s ≡ ends e → run step n s ≡ ended e
+  run-ended zero s e h q = absurd (omega arith)
+  run-ended (suc n) s e h q = run-ends n s e q
+
+  pub run-cut-off : (n : ℕ) (s : S) (c : C) → 0 < n → step s ≡ cuts c → run step n s ≡ cut c
+  run-cut-off zero s c h q = absurd (omega arith)
+  run-cut-off (suc n) s c h q = run-cuts n s c q
+
+  pub run-none : (n : ℕ) (s : S) → n ≤ 0 → run step n s ≡ limit s
+  unfolding run
+  run-none zero s h = refl
+  run-none (suc n) s h = absurd (omega arith)
+
+-- ---- notes
+
+module _ {S E C : Type 0} (step : S → Stepped S E C) {T : Type 0} (note : S → Option T) where
+  pub notes-goes-some : (n : ℕ) (s t : S) (x : T) → step s ≡ goes t → note s ≡ some x → notes step note (suc n) s ≡ x ∷ notes step note n t
+  unfolding notes opt
+  notes-goes-some n s t x h k = rw (h, k, notes)
+
+  pub notes-goes-none : (n : ℕ) (s t : S) → step s ≡ goes t → note s ≡ none → notes step note (suc n) s ≡ notes step note n t
+  unfolding notes opt
+  notes-goes-none n s t h k = rw (h, k, notes)
+
+  pub notes-ends-some : (n : ℕ) (s : S) (e : E) (x : T) → step s ≡ ends e → note s ≡ some x → notes step note (suc n) s ≡ x ∷ []
+  unfolding notes opt
+  notes-ends-some n s e x h k = rw (h, k, notes)
+
+  pub notes-ends-none : (n : ℕ) (s : S) (e : E) → step s ≡ ends e → note s ≡ none → notes step note (suc n) s ≡ []
+  unfolding notes opt
+  notes-ends-none n s e h k = rw (h, k, notes)
+
+  pub notes-cuts-some : (n : ℕ) (s : S) (c : C) (x : T) → step s ≡ cuts c → note s ≡ some x → notes step note (suc n) s ≡ x ∷ []
+  unfolding notes opt
+  notes-cuts-some n s c x h k = rw (h, k, notes)
+
+  pub notes-cuts-none : (n : ℕ) (s : S) (c : C) → step s ≡ cuts c → note s ≡ none → notes step note (suc n) s ≡ []
+  unfolding notes opt
+  notes-cuts-none n s c h k = rw (h, k, notes)
+
+  pub notes-few : (n : ℕ) (s : S) → length (notes step note n s) ≤ n
+  unfolding notes
+  notes-few zero s = omega arith
+  notes-few (suc n) s = by (notes-few n) (step s) refl (note s) refl
+    where
+      by : ((t : S) → length (notes step note n t) ≤ n) → (o : Stepped S E C) → step s ≡ o → (m : Option T) → note s ≡ m → length (notes step note (suc n) s) ≤ suc n
+      by few (goes t) q (some x) r = rw (notes-goes-some n s t x q r) (omega (arith, few t))
+      by few (goes t) q none r = rw (notes-goes-none n s t q r) (omega (arith, few t))
+      by few (ends e) q (some x) r = rw (notes-ends-some n s e x q r) (omega arith)
+      by few (ends e) q none r = rw (notes-ends-none n s e q r) (omega arith)
+      by few (cuts c) q (some x) r = rw (notes-cuts-some n s c x q r) (omega arith)
+      by few (cuts c) q none r = rw (notes-cuts-none n s c q r) (omega arith)

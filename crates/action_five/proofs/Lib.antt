@@ -1,0 +1,2 @@
+pub mod Builds
+pub mod Fives

@@ -1,0 +1,57 @@
+-- The commands that move no byte of storage, as the code has them.
+use Prim.Native.Nat.{ℕ}
+use mathlib.Core.Path.{_≡_}
+use mathlib.Core.Bool.{Bool, true, false}
+use mathlib.Core.List.{List}
+use Rattle.base.specs.Bytes.{be16At}
+use Rattle.address.specs.declared.Address.{Address}
+use Rattle.address.specs.Order.{lastCylinder}
+use Rattle.channel.specs.declared.Ccw.{Ccw}
+use Rattle.channel.specs.declared.Location.{Location}
+use Rattle.channel.specs.Ccw.{Lent, argument}
+use Rattle.drive.specs.declared.Command.{Command}
+use Rattle.drive.specs.declared.Command.the-variants.{NoOperation, Seek, SetMask, SetSector, SearchId, ReadHome, ReadRecord, Unlisted}
+use Rattle.drive.specs.Drive as Abstract
+use Rattle.drive.specs.Step as Step
+use Rattle.command.specs.declared.Answer.{Answer}
+use Rattle.command.specs.Answer.{answerOf, settingWith}
+
+-- a plan of the definitions for every storage, which leaves storage as it is
+abbrev pub Plans : (List ℕ → Step.Plan) → Answer → Type 0
+Plans plan r = (st : List ℕ) → plan st ≡ Step.answer (answerOf r st)
+
+-- The command k of the CCW c at l, on the drive d: it leaves storage as it is, whatever that is.
+abbrev pub Performs : List ℕ → List ℕ → List ℕ → Location → Ccw → Command → Abstract.Drive → Answer → Type 0
+Performs arguments restartArguments image l c k d r =
+    (p : Lent) (st : List ℕ) → p .arguments ≡ arguments → p .restartArguments ≡ restartArguments
+    → Step.perform (settingWith p image) l c d st k ≡ Step.answer (answerOf r st)
+
+-- two bytes of a CCW's argument
+abbrev pub ArgumentWord : List ℕ → List ℕ → Location → Ccw → ℕ → ℕ → Type 0
+ArgumentWord s r l c k n = (p : Lent) → p .arguments ≡ s → p .restartArguments ≡ r → n ≡ be16At (argument p l c) k
+
+-- every seek whose argument begins with the number n, which must be 0, and names the track a
+abbrev pub Seeks : ℕ → Address → Location → Ccw → Abstract.Drive → Answer → Type 0
+Seeks n a l c d r = (g : List ℕ) → be16At g 0 ≡ n → Step.sought g ≡ a → Plans (λ st. Step.planSeek l c d st lastCylinder g) r
+
+-- the commands that move no byte of storage
+unfoldable pub moveless : Command → Bool
+moveless NoOperation = true
+moveless Seek = true
+moveless SetMask = true
+moveless SetSector = true
+moveless SearchId = true
+moveless ReadHome = false
+moveless (ReadRecord k) = false
+moveless Unlisted = true
+
+-- those that have an argument
+unfoldable pub argues : Command → Bool
+argues NoOperation = false
+argues Seek = true
+argues SetMask = true
+argues SetSector = true
+argues SearchId = true
+argues ReadHome = false
+argues (ReadRecord k) = false
+argues Unlisted = false

@@ -1,0 +1,3 @@
+pub mod Final
+pub mod Tests
+pub mod Retracing

@@ -1,0 +1,120 @@
+-- DEMAND 3. "For every chain, arguments, storage, image, fault list, extent and command limit that document 01 lets a reading begin with, and
+-- however often the faults cut the chain, the whole reading ends, neither as limit nor as stopped. Then storage, ending address, unit and channel
+-- status and remaining count equal those of the faultless run."
+--   Begins        what document 01 lets a reading begin with
+--   Provided      "each faulted track lies in the extent, the faultless run sets no file mask in PCI fetch mode, and it ends within the chain's
+--                 command limit and not by a program check"
+--   LikeFaultless the conclusion
+use Prim.Native.Nat.{ℕ}
+use mathlib.Core.Path.{_≡_}
+use mathlib.Core.Bool.{Bool, true, false}
+use mathlib.Core.Option.{some}
+use mathlib.Core.List.{List, [], _∷_, map}
+use lib.ListN.{length, take}
+use Rattle.base.specs.Choice.{pick}
+use Rattle.questions.specs.Areas.{runAreas}
+use Rattle.address.specs.declared.Address.{Address}
+use Rattle.address.specs.declared.Extent.{Extent}
+use Rattle.address.specs.Order.{lastCylinder}
+use Rattle.address.specs.Within.{extentOf, within, soundExtent}
+use Rattle.pack.specs.Pack.{packOf}
+use Rattle.image.specs.Image.{wellFormed}
+use Rattle.faults.specs.Faults.{Fault, faultsAt, soundFaults}
+use Rattle.abstract_machine.specs.Machine.{ended, notes, Along}
+use Rattle.abstract_machine.specs.Reading.{ends}
+use Rattle.channel.specs.declared.Location.the-variants.{Chain}
+use Rattle.channel.specs.Csw.{programCheckStatus}
+use Rattle.drive.specs.Drive.{addressBytes}
+use Rattle.drive.specs.Step.{End, Setting, plan, step, Area, areaIn}
+use Rattle.drive.specs.Run.{start, runFrom}
+use Rattle.recovery.specs.Table.{rows}
+use Rattle.recovery.specs.Recovery.{fetchMode}
+use Rattle.demand_three.specs.WholeReading.{Entry, Restarted, final, wholeReading}
+
+-- the lent areas, and what the fault list says
+pub record Lending : Type 0 where
+  pub chain : List ℕ
+  pub arguments : List ℕ
+  pub storage : List ℕ
+  pub image : List ℕ
+  pub faultList : List ℕ
+  pub faults : List Fault
+  pub extent : List ℕ
+  pub limit : ℕ
+
+-- what a run of the chain is told: the pack of the image, the chain and the arguments; there is no restart program
+unfoldable pub settingOf : Lending → Setting
+settingOf g = record {
+  last = lastCylinder;
+  pack = packOf (g .image);
+  lent = record { chain = g .chain; arguments = g .arguments; program = []; restartArguments = [] };
+}
+
+-- "A reading refuses only by questions 1, 2, 3 and 5, before it begins."
+pub record Begins (g : Lending) : Type 0 where
+  pub areas : runAreas (length (g .chain)) (length (g .arguments)) (length (g .storage)) (length (g .image)) (length (g .faultList)) (g .limit) ≡ true
+  pub image : wellFormed lastCylinder (g .image) ≡ true
+  pub listed : faultsAt (g .faultList) 0 ≡ some (g .faults)
+  pub faults : soundFaults (packOf (g .image)) (g .faults) ≡ true
+  pub extent : (length (g .extent) ≡ 8) × (soundExtent lastCylinder (extentOf (g .extent)) ≡ true)
+
+-- ---- the provisos
+
+-- "each faulted track lies in the extent"
+unfoldable pub allInside : Extent → List Fault → Bool
+allInside x [] = true
+allInside x (f ∷ fs) = pick (within x (f .at)) (allInside x fs) false
+
+-- the faultless run: "the same chain, arguments, lent storage, image and limit, with no faults"
+pub record Provided (g : Lending) (e : End) : Type 0 where
+  pub inside : allInside (extentOf (g .extent)) (g .faults) ≡ true
+  -- it "ends within the chain's command limit", with e
+  pub faultless : runFrom [] (settingOf g) (g .limit) (Chain 0) (g .storage) ≡ ended e
+  -- "and not by a program check"
+  pub sound : e .csw .channel ≡ programCheckStatus → ⊥
+  -- it "sets no file mask in PCI fetch mode": before none of its commands is such a mask set
+  pub unfetched : Along (step [] (settingOf g)) (λ s. fetchMode (s .drive .mask) ≡ false) (g .limit) (start (Chain 0) (g .storage))
+
+-- ---- the conclusion
+
+-- a record by its track and number
+pub record Named : Type 0 where
+  pub at : Address
+  pub r : ℕ
+
+-- the record of a recovery
+unfoldable pub recovered : Entry → Named
+recovered t = record { at = t .at; r = t .r }
+
+-- "it reads a faulted data area each time a 06, 0E or 1E takes a record that the list names, even if it stores no byte"
+unfoldable pub faultedOnes : List Area → List Named
+faultedOnes [] = []
+faultedOnes (a ∷ rest) = pick (a .faulted) (record { at = a .at; r = a .r } ∷ faultedOnes rest) (faultedOnes rest)
+
+-- the faulted data areas that the faultless run reads, in order
+unfoldable pub faultedAreas : Lending → List Named
+faultedAreas g = faultedOnes (notes (step [] (settingOf g)) (λ s. areaIn (g .faults) (plan (settingOf g) s)) (g .limit) (start (Chain 0) (g .storage)))
+
+-- the seek argument of a restart names a track of the extent
+abbrev pub SeeksInside : Extent → Restarted → Type 0
+SeeksInside x r = (a : Address) × (within x a ≡ true) × (take 6 (r .restartArguments) ≡ 0 ∷ 0 ∷ addressBytes a)
+
+-- the same of each restart that was built
+abbrev pub EachInside : Extent → List Restarted → Type 0
+EachInside x [] = Unit {0}
+EachInside x (r ∷ rs) = SeeksInside x r × EachInside x rs
+
+-- The reading g ends like the faultless run, which ends with e.
+pub record LikeFaultless (g : Lending) (e : End) : Type 0 where
+  pub made : List Entry
+  pub built : List Restarted
+  -- it ends, neither as "limit" nor as "stopped", with the same CSW and storage
+  pub same-end : wholeReading (g .faults) (settingOf g) rows (extentOf (g .extent)) (g .limit) (g .storage) ≡ ends (record { made = made; built = built }) (final e)
+  -- its recoveries are the faulted data areas that the faultless run reads, "one for each time"
+  pub same-areas : map recovered made ≡ faultedAreas g
+  -- "no restart's own seek lies outside the extent"
+  pub inside : EachInside (extentOf (g .extent)) built
+
+-- DEMAND 3
+abbrev pub DemandThree : Type 0
+DemandThree = (g : Lending) (e : End) → Begins g → Provided g e → LikeFaultless g e

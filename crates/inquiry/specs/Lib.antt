@@ -1,2 +1,0 @@
-pub mod Inquiry
-pub mod Found

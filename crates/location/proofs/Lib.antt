@@ -1,0 +1,2 @@
+pub mod NextFits
+pub mod CswBytes

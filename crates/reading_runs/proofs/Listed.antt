@@ -1,0 +1,60 @@
+-- The areas behind a reading, from recovery to recovery.
+--   noted-list       the list with one recovery more
+--   program-last, arguments-last   the restart areas with one restart more
+use Prim.Native.Nat.{ℕ, _+_, _*_}
+use native.Mathlib.Omega.{arith}
+use mathlib.Core.Path.{_≡_, refl, ap, ap₂, sym, _∙_}
+use mathlib.Core.List.{List, [], _∷_, _++_, append-assoc, append-nil}
+use lib.ListN.{length, take, drop, length-append}
+use lib.Seq.{take-append-seam, drop-append-add, drop-drop}
+use Rattle.base.specs.Bytes.{two}
+use Rattle.drive.specs.Drive.{addressBytes}
+use Rattle.demand_three.specs.WholeReading.{Entry, Restarted}
+use Rattle.reading_cut.specs.Entry.{entryBytes}
+use Rattle.reading_cut.specs.Cut.{noteAt}
+use Rattle.reading_runs.specs.Conclusion.{entriesBytes, listAfter, programAfter, restartArgumentsAfter}
+
+entry-length : (t : Entry) → length (entryBytes t) ≡ 6
+unfolding entryBytes addressBytes two
+entry-length t = refl
+
+entries-length : (ts : List Entry) → length (entriesBytes ts) ≡ length ts * 6
+unfolding entriesBytes
+entries-length [] = refl
+entries-length (t ∷ ts) =
+    let a = length-append (entryBytes t) (entriesBytes ts) in
+    let b = entry-length t in
+    let c = entries-length ts in
+    omega arith
+
+entries-more : (ts : List Entry) (t : Entry) → entriesBytes (ts ++ t ∷ []) ≡ entriesBytes ts ++ entryBytes t
+unfolding entriesBytes
+entries-more [] t = append-nil (entryBytes t)
+entries-more (u ∷ ts) t = ap (λ (l : List ℕ). entryBytes u ++ l) (entries-more ts t) ∙ sym (append-assoc (entryBytes u) (entriesBytes ts) (entryBytes t))
+
+one-more : (ts : List Entry) (t : Entry) → length (ts ++ t ∷ []) ≡ length ts + 1
+one-more ts t = length-append ts (t ∷ [])
+
+pub noted-list : (ts : List Entry) (t : Entry) (l : List ℕ) (n : ℕ) → n ≡ length ts → noteAt n (entryBytes t) (listAfter ts l) ≡ listAfter (ts ++ t ∷ []) l
+unfolding noteAt listAfter
+noted-list ts t l n e =
+    let s : List ℕ = entriesBytes ts in
+    let rest : List ℕ = drop (length ts * 6) l in
+    let size : n * 6 ≡ length s = omega (arith, e, entries-length ts) in
+    let more : n * 6 + 6 ≡ length s + 6 = omega (arith, size) in
+    let many : length (ts ++ t ∷ []) * 6 ≡ length ts * 6 + 6 = omega (arith, one-more ts t) in
+    let front : take (n * 6) (s ++ rest) ≡ s = ap (λ (k : ℕ). take k (s ++ rest)) size ∙ take-append-seam s rest in
+    let back : drop (n * 6 + 6) (s ++ rest) ≡ drop (length ts * 6 + 6) l = ap (λ (k : ℕ). drop k (s ++ rest)) more ∙ drop-append-add s rest 6 ∙ drop-drop 6 (length ts * 6) l in
+    ap₂ (λ (x y : List ℕ). x ++ (entryBytes t ++ y)) front back
+    ∙ sym (append-assoc s (entryBytes t) (drop (length ts * 6 + 6) l))
+    ∙ ap₂ (λ (x : List ℕ) (k : ℕ). x ++ drop k l) (sym (entries-more ts t)) (sym many)
+
+pub program-last : (rs : List Restarted) (r : Restarted) (p : List ℕ) → programAfter (rs ++ r ∷ []) p ≡ r .program
+unfolding programAfter
+program-last [] r p = refl
+program-last (q ∷ rs) r p = program-last rs r (q .program)
+
+pub arguments-last : (rs : List Restarted) (r : Restarted) (a : List ℕ) → restartArgumentsAfter (rs ++ r ∷ []) a ≡ r .restartArguments
+unfolding restartArgumentsAfter
+arguments-last [] r a = refl
+arguments-last (q ∷ rs) r a = arguments-last rs r (q .restartArguments)

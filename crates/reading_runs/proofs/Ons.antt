@@ -1,0 +1,173 @@
+-- A reading from its first run on, from the tests that the code makes.
+--   Logged           the areas hold what the recoveries made so far left in them
+--   Onward           the reading goes on with a run, behind these recoveries
+--   at-first         it does with the first run
+--   on-ended, on-limited, on-exhausted   its end: by the run, by its limit, by a cut too many
+--   on-closed, on-halted                 by what a cut comes to
+--   on-again         one recovery more, and the restarted run
+use Prim.Native.Nat.{ℕ, suc, _+_, _-_, _≤_}
+use native.Mathlib.Omega.{arith}
+use mathlib.Core.Path.{_≡_, refl, ap, sym, _∙_}
+use mathlib.Core.Option.{some}
+use mathlib.Core.List.{List, [], _∷_, _++_, append-nil}
+use lib.ListN.{length, length-append}
+use Rattle.faults.specs.Faults.{Fault, faultsAt}
+use Rattle.address.specs.declared.Extent.{Extent}
+use Rattle.abstract_machine.specs.Machine.{Result}
+use Rattle.abstract_machine.specs.Reading as Reading
+use Rattle.abstract_machine.specs.Reading.{Log}
+use Rattle.abstract_machine.proofs.Whole.{reading-ended, reading-limited, reading-exhausted, reading-restart, reading-finish, reading-stop}
+use Rattle.channel.specs.declared.Csw.{Csw}
+use Rattle.channel.specs.Csw.{cswAt}
+use Rattle.drive.specs.Step as Step
+use Rattle.drive.specs.Run.{limitCsw}
+use Rattle.command.specs.declared.Cut.{Cut}
+use Rattle.command.specs.declared.End.{End}
+use Rattle.command.specs.declared.State.{State}
+use Rattle.trial.specs.declared.Ran.{Ran}
+use Rattle.trial.specs.declared.Ran.the-variants as Ran
+use Rattle.trial.specs.Run.{ranOf}
+use Rattle.demand_three.specs.WholeReading.{Entry, Restarted, Whole, final, givenIn}
+use Rattle.reading_runs.specs.declared.How.{How}
+use Rattle.reading_runs.specs.declared.How.the-variants.{Ended, Limited, Stop}
+use Rattle.reading_runs.specs.declared.Outcome.the-variants as Outcome
+use Rattle.reading_cut.specs.declared.Went.the-variants.{Again, Closed, Halted}
+use Rattle.reading_cut.specs.Entry.{entryBytes}
+use Rattle.reading_cut.specs.Cut.{Areas, noteAt, toldOf, AfterCut}
+use Rattle.reading_runs.specs.Conclusion.{Conclusion, entriesBytes, listAfter, programAfter, restartArgumentsAfter, leaving, over, concluded}
+use Rattle.reading_runs.specs.On.{noLog, readOn, ReadsOn}
+use Rattle.reading_runs.proofs.Listed.{noted-list, program-last, arguments-last}
+
+-- from the areas z, the recoveries of a log lead to the areas y
+pub record Logged (z : Areas) (g : Log Entry Restarted) (made : ℕ) (y : Areas) : Type 0 where
+  pub count : made ≡ length (g .made)
+  pub program : y .program ≡ programAfter (g .built) (z .program)
+  pub restartArguments : y .restartArguments ≡ restartArgumentsAfter (g .built) (z .restartArguments)
+  pub list : y .list ≡ listAfter (g .made) (z .list)
+
+module _ (z : Areas) (g : Log Entry Restarted) (made : ℕ) (y : Areas) (logged : Logged z g made y) where
+  -- an end of the reading, in the code's terms and in the definitions'
+  over-is : (h : How) (w : Csw) → leaving (Outcome.Over (record { csw = w; made = made; how = h })) (y .storage) (y .program) (y .restartArguments) (y .list)
+      ≡ over g h w (y .storage) (z .program) (z .restartArguments) (z .list)
+  unfolding over
+  over-is h w = λ i. record {
+    answer = Outcome.Over (record { csw = w; made = logged .count i; how = h });
+    storage = y .storage;
+    program = logged .program i;
+    restartArguments = logged .restartArguments i;
+    list = logged .list i;
+  }
+
+  -- one recovery more, with a restart and without
+  module _ (t : Entry) (y′ : Areas) (q : y′ .list ≡ noteAt made (entryBytes t) (y .list)) where
+    one-more : made + 1 ≡ length (g .made ++ t ∷ [])
+    one-more = let n = length-append (g .made) (t ∷ []) in omega (arith, logged .count)
+
+    list-more : y′ .list ≡ listAfter (g .made ++ t ∷ []) (z .list)
+    list-more =
+        q ∙ ap (noteAt made (entryBytes t)) (logged .list) ∙ noted-list (g .made) t (z .list) made (logged .count)
+
+    pub logged-restart : (b : Restarted) → y′ .program ≡ b .program → y′ .restartArguments ≡ b .restartArguments
+        → Logged z (record { made = g .made ++ t ∷ []; built = g .built ++ b ∷ [] }) (made + 1) y′
+    logged-restart b p a = record {
+      count = one-more;
+      program = p ∙ sym (program-last (g .built) b (z .program));
+      restartArguments = a ∙ sym (arguments-last (g .built) b (z .restartArguments));
+      list = list-more;
+    }
+
+    pub logged-finish : y′ .program ≡ y .program → y′ .restartArguments ≡ y .restartArguments
+        → Logged z (record { made = g .made ++ t ∷ []; built = g .built ++ [] }) (made + 1) y′
+    logged-finish p a = record {
+      count = one-more;
+      program = p ∙ logged .program ∙ ap (λ (l : List Restarted). programAfter l (z .program)) (sym (append-nil (g .built)));
+      restartArguments = a ∙ logged .restartArguments ∙ ap (λ (l : List Restarted). restartArgumentsAfter l (z .restartArguments)) (sym (append-nil (g .built)));
+      list = list-more;
+    }
+
+-- ---- the loop
+
+more-left : (n m : ℕ) → m ≤ n → (m ≡ n → ⊥) → n - m ≡ suc (n - (m + 1))
+more-left n m h ne = omega arith
+
+module _ (chain arguments image faults : List ℕ) (x : Extent) (n : ℕ) (first : Ran) (z : Areas) where
+  abbrev rest : List Fault → ℕ → Log Entry Restarted → Ran → List ℕ → Whole
+  rest fs k g r st = readOn fs (toldOf chain arguments image) x k g (ranOf r st)
+
+  abbrev pub Onward : ℕ → Ran → Areas → Type 0
+  Onward made r y =
+      (g : Log Entry Restarted) × Logged z g made y
+      × ((fs : List Fault) → faultsAt faults 0 ≡ some fs → rest fs n noLog first (z .storage) ≡ rest fs (n - made) g r (y .storage))
+
+  pub at-first : Onward 0 first z
+  unfolding programAfter restartArgumentsAfter listAfter entriesBytes
+  at-first = (noLog, record { count = refl; program = refl; restartArguments = refl; list = refl }, λ fs e. ap (λ (k : ℕ). rest fs k noLog first (z .storage)) (let d : n ≡ n - 0 = omega arith in d))
+
+  abbrev shown : Whole → Conclusion
+  shown q = concluded q (z .program) (z .restartArguments) (z .list)
+
+  abbrev Ends : ℕ → How → Csw → Areas → Type 0
+  Ends made h w y = ReadsOn chain arguments image faults x n first z (record { csw = w; made = made; how = h }) y
+
+  -- the conclusion of a reading that goes on
+  concludes : (y : Areas) (made : ℕ) (r : Ran) (o : Onward made r y) (c : Conclusion)
+      → ((fs : List Fault) → c ≡ shown (rest fs (n - made) (o .0) r (y .storage)))
+      → (fs : List Fault) → faultsAt faults 0 ≡ some fs → c ≡ shown (rest fs n noLog first (z .storage))
+  concludes y made r o c h fs e =
+      h fs ∙ ap shown (sym (o .2 fs e))
+
+  module _ (made : ℕ) (y : Areas) where
+    pub on-ended : (e : End) → Onward made (Ran.Ended e) y → Ends made Ended (e .csw) y
+    unfolding concluded final
+    on-ended e o =
+        concludes y made (Ran.Ended e) o _
+        (λ fs. over-is z (o .0) made y (o .1) Ended (e .csw)
+        ∙ ap shown (sym (reading-ended _ _ _ (n - made) (o .0) _)))
+
+    pub on-limited : (s : State) (w : Csw) → Onward made (Ran.Limited s) y → w ≡ cswAt (s .last) 0x0c 0 (s .left) → Ends made Limited w y
+    unfolding concluded limitCsw
+    on-limited s w o e =
+        concludes y made (Ran.Limited s) o _
+        (λ fs. over-is z (o .0) made y (o .1) Limited w
+        ∙ ap (λ (v : Csw). over (o .0) Limited v (y .storage) (z .program) (z .restartArguments) (z .list)) e
+        ∙ ap shown (sym (reading-limited _ _ _ (n - made) (o .0) _)))
+
+    module _ (k : Cut) (o : Onward made (Ran.Cut k) y) where
+      pub on-exhausted : made ≡ n → Ends made Limited (k .csw) y
+      unfolding concluded
+      on-exhausted e =
+          concludes y made (Ran.Cut k) o _
+          (λ fs. over-is z (o .0) made y (o .1) Limited (k .csw)
+          ∙ ap shown
+          (sym (ap (λ (m : ℕ). rest fs m (o .0) (Ran.Cut k) (y .storage)) (let d : n - made ≡ 0 = omega arith in d) ∙ reading-exhausted _ _ _ (o .0) _)))
+
+      module _ (few : made ≤ n) (ne : made ≡ n → ⊥) where
+        -- the reading with one recovery at least
+        some-left : (fs : List Fault) → rest fs (n - made) (o .0) (Ran.Cut k) (y .storage) ≡ rest fs (suc (n - (made + 1))) (o .0) (Ran.Cut k) (y .storage)
+        some-left fs = ap (λ (m : ℕ). rest fs m (o .0) (Ran.Cut k) (y .storage)) (more-left n made few ne)
+
+        pub on-closed : (w : Csw) (y′ : Areas) → AfterCut chain arguments image faults x k made y (Closed w) y′ → Ends (made + 1) Ended w y′
+        unfolding concluded Reading.noted givenIn
+        on-closed w y′ (t, e, p, a, q) =
+            concludes y made (Ran.Cut k) o _
+            (λ fs. over-is z _ (made + 1) y′ (logged-finish z (o .0) made y (o .1) t y′ q p a) Ended w
+            ∙ ap shown (sym (some-left fs ∙ reading-finish _ _ _ (n - (made + 1)) (o .0) _ t _ e)))
+
+        pub on-halted : (m : ℕ) (y′ : Areas) → AfterCut chain arguments image faults x k made y (Halted m) y′ → Ends made (Stop m) (k .csw) y′
+        unfolding concluded givenIn
+        on-halted m y′ (s, e, f, same) =
+            concludes y made (Ran.Cut k) o _
+            (λ fs. ap (λ (v : Areas). leaving (Outcome.Over (record { csw = k .csw; made = made; how = Stop m })) (v .storage) (v .program) (v .restartArguments) (v .list)) same
+            ∙ over-is z (o .0) made y (o .1) (Stop m) (k .csw)
+            ∙ ap (λ (v : ℕ). over (o .0) (Stop v) (k .csw) (y .storage) (z .program) (z .restartArguments) (z .list)) f
+            ∙ ap shown (sym (some-left fs ∙ reading-stop _ _ _ (n - (made + 1)) (o .0) _ s e)))
+
+        pub on-again : (r : Ran) (y′ : Areas) → AfterCut chain arguments image faults x k made y (Again r) y′ → Onward (made + 1) r y′
+        unfolding Reading.noted givenIn
+        on-again r y′ (t, b, e, p, a, q, runs) = (
+          record { made = o .0 .made ++ t ∷ []; built = o .0 .built ++ b ∷ [] },
+          logged-restart z (o .0) made y (o .1) t y′ q b p a,
+          λ fs l.
+              o .2 fs l ∙ some-left fs ∙ reading-restart _ _ _ (n - (made + 1)) (o .0) _ t b e
+              ∙ ap (λ (m : Result Step.State Step.End Step.Cut). readOn fs (toldOf chain arguments image) x (n - (made + 1)) (record { made = o .0 .made ++ t ∷ []; built = o .0 .built ++ b ∷ [] }) m) (runs fs l),
+        )

@@ -1,0 +1,2 @@
+pub mod Conclusion
+pub mod On

@@ -1,0 +1,33 @@
+-- A reading from its first run on, as the code has it.
+use Prim.Native.Nat.{ℕ}
+use mathlib.Core.Path.{_≡_}
+use mathlib.Core.Option.{some}
+use mathlib.Core.List.{List, []}
+use Rattle.faults.specs.Faults.{Fault, faultsAt}
+use Rattle.address.specs.declared.Extent.{Extent}
+use Rattle.abstract_machine.specs.Machine.{Result}
+use Rattle.abstract_machine.specs.Reading.{Log, reading}
+use Rattle.drive.specs.Step as Step
+use Rattle.trial.specs.declared.Ran.{Ran}
+use Rattle.trial.specs.Run.{ranOf}
+use Rattle.recovery.specs.Table.{rows}
+use Rattle.demand_three.specs.WholeReading.{Entry, Restarted, Whole, recoverCut, restartedRun, final, givenIn}
+use Rattle.reading_cut.specs.Cut.{Areas, toldOf}
+use Rattle.reading_runs.specs.declared.Over.{Over}
+use Rattle.reading_runs.specs.declared.Outcome.the-variants as Outcome
+use Rattle.reading_runs.specs.Conclusion.{leaving, concluded}
+
+-- no recovery made yet, and no restart built
+abbrev pub noLog : Log Entry Restarted
+noLog = record { made = []; built = [] }
+
+-- a reading from what a run came to, with k recoveries allowed
+abbrev pub readOn : List Fault → Step.Setting → Extent → ℕ → Log Entry Restarted → Result Step.State Step.End Step.Cut → Whole
+readOn fs w x k g r = reading (restartedRun fs w) (recoverCut (givenIn w rows x)) final k g r
+
+-- What the code makes of the first run's result, with n recoveries allowed: its answer and the areas behind it are the definitions'.
+abbrev pub ReadsOn : (chain arguments image faults : List ℕ) → Extent → ℕ → Ran → Areas → Over → Areas → Type 0
+ReadsOn chain arguments image faults x n first z o y =
+    (fs : List Fault) → faultsAt faults 0 ≡ some fs
+    → leaving (Outcome.Over o) (y .storage) (y .program) (y .restartArguments) (y .list)
+    ≡ concluded (readOn fs (toldOf chain arguments image) x n noLog (ranOf first (z .storage))) (z .program) (z .restartArguments) (z .list)

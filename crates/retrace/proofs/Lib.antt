@@ -1,3 +1,0 @@
-pub mod Final
-pub mod Tests
-pub mod Retraced

@@ -1,4 +1,0 @@
-pub mod Listed
-pub mod Ons
-pub mod Calls
-pub mod Demand
