@@ -13,7 +13,7 @@ edits() {
     if [ -d "$1" ]; then find "$1" -name '*.edit' | wc -l; else echo 0; fi
 }
 
-row='%-18s %7s %12s %7s %6s\n'
+row='%-20s %7s %12s %7s %6s\n'
 printf "$row" crate code definitions proof edits
 sums=(0 0 0 0)
 while IFS=: read -r crate _; do

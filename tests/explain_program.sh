@@ -24,7 +24,7 @@ slots() {
 refusal='refused 1: are all areas and limits as they must be?'
 for sample in samples/explain/*.hex; do
     name=${sample%.hex}
-    compare "$name" <(input "$sample" | "$explain") "$name.out"
+    compare "$name" <(printed "$explain" "$sample") "$name.out"
 done
 compare "60,000 bytes" <(zeros 59986 8 | "$explain") <(slots; echo "$refusal")
 compare "60,001 bytes" <(zeros 59987 8 | "$explain") <(echo "$refusal")

@@ -33,7 +33,7 @@ long() {
 
 for sample in samples/*.hex; do
     name=${sample%.hex}
-    compare "$name" <(input "$sample" | "$reading") <(expected "$name")
+    compare "$name" <(printed "$reading" "$sample") <(expected "$name")
 done
 compare "60,000 bytes" <(long 0 | "$reading") samples/worked.out
 compare "60,001 bytes" <(long 1 | "$reading") samples/refused_1.out

@@ -1,12 +1,13 @@
 #!/usr/bin/env bash
-# Proves every crate, builds library and programs, and runs every test but that of the text (tests/tidy.sh): the simulator's own; the
-# hand-written cases of runs, of recoveries and of whole readings on simulator and library; library against simulator; the C example; the
-# programs on their samples; the edits of the definitions that demand 3 must not survive.
+# Proves every crate, builds library and programs, and runs every test but that of the text (tests/tidy.sh): the scripts of samples/ and the
+# commands of the pages, which write the library that further tests link; the simulator's own; the hand-written cases of runs, of recoveries
+# and of whole readings on simulator and library; library against simulator; the C example; the programs on their samples; the edits of the
+# definitions that demand 3 must not survive.
 set -euo pipefail
 cd "$(dirname "${BASH_SOURCE[0]}")/.."
 
 rt check
-rt staticlib giruve
+bash tests/first_hour.sh
 library=(-L target/staticlib -l static=giruve)
 rustc --test --edition 2021 tests/simulator_tests.rs -o target/simulator_tests
 target/simulator_tests --quiet

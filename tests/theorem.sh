@@ -1,12 +1,14 @@
 #!/usr/bin/env bash
-# Edits of the definitions that make demand 3 false. Each is applied in a copy of the crates; then the theorem (crate `demand_three`), or a law
-# that it rests on, must no longer be proved. An edit: `# why`, `file: PATH`, then pairs of `old: TEXT` and `new: TEXT`.
+# Edits of the definitions that make demand 3 false. Each is applied in a copy of the crates; then a law that `demand-three` rests on, or the
+# theorem itself, must no longer be proved, and the first error must say so (tests/refusals). The test of this test: the edits of
+# tests/theorem/bad are none, and each must be reported. An edit: `# why`, `file: PATH`, then pairs of `old: TEXT` and `new: TEXT`.
 set -euo pipefail
 cd "$(dirname "${BASH_SOURCE[0]}")/.."
 
 rt check demand_three > /dev/null
 copy=$(mktemp -d)
 trap 'rm -rf "$copy"' EXIT
+rustc -O --edition 2021 tests/refusals/main.rs -o "$copy/refusals"
 cp -r crates crates.txt target "$copy"
 
 apply() {
@@ -29,21 +31,30 @@ apply() {
     done < "$1"
 }
 
-refused=0
-for edit in tests/theorem/*.edit; do
-    apply "$edit"
-    if (cd "$copy" && rt check demand_three) > "$copy/log" 2>&1; then
-        echo "$edit: demand 3 is still proved"
-        exit 1
-    fi
-    if ! grep -q 'demand_three NOT PROVED' "$copy/log" || grep -q 'has no `Need-' "$copy/log"; then
-        echo "$edit: not refused by a fact"
-        cat "$copy/log"
-        exit 1
-    fi
-    echo "theorem: $(basename "$edit" .edit) refused, first at $(grep -m 1 -o 'crates/[^ ]*: error: `[^`]*`' "$copy/log" | sed 's/ error://')"
+# Whether the theorem is refused with an edit, and where; the crates are as they were behind it.
+refused() {
+    local status=0
+    apply "$1"
+    (cd "$copy" && rt check demand_three) > "$copy/log" 2>&1 || true
+    "$copy/refusals" theorem "$copy" "$copy/log" > "$copy/said" || status=$?
     rm -r "$copy/crates"
     cp -r crates "$copy"
-    refused=$((refused + 1))
+    return $status
+}
+
+count=0
+for edit in tests/theorem/*.edit; do
+    if ! refused "$edit"; then
+        echo "$edit: $(cat "$copy/said")"
+        exit 1
+    fi
+    echo "theorem: $(basename "$edit" .edit) $(cat "$copy/said")"
+    count=$((count + 1))
 done
-echo "theorem: $refused edits of the definitions, each refused"
+for edit in tests/theorem/bad/*.edit; do
+    if refused "$edit"; then
+        echo "$edit counts as an edit that makes demand 3 false: $(cat "$copy/said")"
+        exit 1
+    fi
+done
+echo "theorem: $count edits of the definitions, each refused; $(ls tests/theorem/bad | wc -l) that are none, each reported"

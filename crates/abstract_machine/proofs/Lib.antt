@@ -1,3 +1,4 @@
 pub mod Run
 pub mod Whole
 pub mod Notes
+pub mod Stops

@@ -6,11 +6,12 @@
 --   run-ended              `run-ends` with such a number
 --   run-cut-off            `run-cuts` with such a number
 --   run-none               no command is left
+--   run-cut-in             a run that was cut: the state before the command that was cut keeps what every command keeps
 --   notes-goes-some, notes-goes-none, notes-ends-some, notes-ends-none, notes-cuts-some, notes-cuts-none
 --                          what is noted, by the first command and its note
 --   notes-few              at most one note for each command
 use Prim.Native.Nat.{ℕ, zero, suc, _-_, _≤_, _<_}
-use mathlib.Core.Path.{_≡_, refl}
+use mathlib.Core.Path.{_≡_, refl, sym, _∙_}
 use mathlib.Core.Option.{Option, none, some}
 use mathlib.Core.List.{[], _∷_}
 use lib.ListN.{length}
@@ -18,37 +19,49 @@ use native.Mathlib.Omega.{arith}
 use Rattle.base.specs.Choice.{opt}
 use Rattle.abstract_machine.specs.Machine.{Stepped, goes, ends, cuts, ended, cut, limit, run, notes}
 
-module _ {S E C : Type 0} (step : S → Stepped S E C) where
-  pub run-goes : (n : ℕ) (s t : S) → step s ≡ goes t → run step (suc n) s ≡ run step n t
+module _ {S E C L : Type 0} (step : S → Stepped S E C) (shows : S → L) where
+  pub run-goes : (n : ℕ) (s t : S) → step s ≡ goes t → run step shows (suc n) s ≡ run step shows n t
   unfolding run
   run-goes n s t h = rw (h, run)
 
-  pub run-ends : (n : ℕ) (s : S) (e : E) → step s ≡ ends e → run step (suc n) s ≡ ended e
+  pub run-ends : (n : ℕ) (s : S) (e : E) → step s ≡ ends e → run step shows (suc n) s ≡ ended e
   unfolding run
   run-ends n s e h = rw (h, run)
 
-  pub run-cuts : (n : ℕ) (s : S) (c : C) → step s ≡ cuts c → run step (suc n) s ≡ cut c
+  pub run-cuts : (n : ℕ) (s : S) (c : C) → step s ≡ cuts c → run step shows (suc n) s ≡ cut c
   unfolding run
   run-cuts n s c h = rw (h, run)
 
   -- ---- with a number of commands above 0
 
-  pub run-again : (n : ℕ) (s t : S) → 0 < n → step s ≡ goes t → run step n s ≡ run step (n - 1) t
+  pub run-again : (n : ℕ) (s t : S) → 0 < n → step s ≡ goes t → run step shows n s ≡ run step shows (n - 1) t
   run-again zero s t h q = absurd (omega arith)
   run-again (suc n) s t h q = let e : suc n - 1 ≡ n = omega arith in rw e (run-goes n s t q)
 
-  pub run-ended : (n : ℕ) (s : S) (e : E) → 0 < n → step s ≡ ends e → run step n s ≡ ended e
+  pub run-ended : (n : ℕ) (s : S) (e : E) → 0 < n → step s ≡ ends e → run step shows n s ≡ ended e
   run-ended zero s e h q = absurd (omega arith)
   run-ended (suc n) s e h q = run-ends n s e q
 
-  pub run-cut-off : (n : ℕ) (s : S) (c : C) → 0 < n → step s ≡ cuts c → run step n s ≡ cut c
+  pub run-cut-off : (n : ℕ) (s : S) (c : C) → 0 < n → step s ≡ cuts c → run step shows n s ≡ cut c
   run-cut-off zero s c h q = absurd (omega arith)
   run-cut-off (suc n) s c h q = run-cuts n s c q
 
-  pub run-none : (n : ℕ) (s : S) → n ≤ 0 → run step n s ≡ limit s
+  pub run-none : (n : ℕ) (s : S) → n ≤ 0 → run step shows n s ≡ limit (shows s)
   unfolding run
   run-none zero s h = refl
   run-none (suc n) s h = absurd (omega arith)
+
+  -- ---- a run that was cut
+
+  pub run-cut-in : (P : S → Type 0) → ((s t : S) → P s → step s ≡ goes t → P t) → (n : ℕ) (s : S) → P s → (c : C) → run step shows n s ≡ cut c
+      → (t : S) × P t × (step t ≡ cuts c)
+  run-cut-in P keeps zero s h c e = let z : _≡_ {A = ℕ} 0 1 = cc (run-none zero s (omega arith)) in absurd (omega arith)
+  run-cut-in P keeps (suc n) s h c e = by (run-cut-in P keeps n) (step s) refl
+    where
+      by : ((t : S) → P t → (c : C) → run step shows n t ≡ cut c → (u : S) × P u × (step u ≡ cuts c)) → (o : Stepped S E C) → step s ≡ o → (t : S) × P t × (step t ≡ cuts c)
+      by later (goes t) q = later t (keeps s t h q) c (sym (run-goes n s t q) ∙ e)
+      by later (ends x) q = let z : _≡_ {A = ℕ} 0 1 = cc (run-ends n s x q) in absurd (omega arith)
+      by later (cuts d) q = let same : d ≡ c = cc (run-cuts n s d q) in (s, h, rw (← same) q)
 
 -- ---- notes
 

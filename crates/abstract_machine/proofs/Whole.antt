@@ -58,16 +58,16 @@ module _ {S E C : Type 0} (step : S → Stepped S E C) (P Q : S → Type 0) wher
 
 -- ---- a reading by its run
 
-module _ {T R S E F C X : Type 0} (start : R → Result S E C) (recover : C → CutAnswer T R F X) (close : E → F) where
+module _ {T R L E F C X : Type 0} (start : R → Result L E C) (recover : C → CutAnswer T R F X) (close : E → F) where
   pub reading-ended : (k : ℕ) (g : Log T R) (e : E) → reading start recover close k g (ended e) ≡ Reading.ends g (close e)
   unfolding reading
   reading-ended zero g e = refl
   reading-ended (suc k) g e = refl
 
-  pub reading-limited : (k : ℕ) (g : Log T R) (s : S) → reading start recover close k g (limit s) ≡ Reading.limited g s
+  pub reading-limited : (k : ℕ) (g : Log T R) (l : L) → reading start recover close k g (limit l) ≡ Reading.limited g l
   unfolding reading
-  reading-limited zero g s = refl
-  reading-limited (suc k) g s = refl
+  reading-limited zero g l = refl
+  reading-limited (suc k) g l = refl
 
   pub reading-exhausted : (g : Log T R) (c : C) → reading start recover close zero g (cut c) ≡ Reading.exhausted g c
   unfolding reading
@@ -93,9 +93,9 @@ abbrev pub Each : {A : Type 0} → (A → Type 0) → List A → Type 0
 Each P [] = Unit {0}
 Each P (a ∷ rest) = P a × Each P rest
 
-module _ {T R S E F C X H : Type 0} (start : R → Result S E C) (recover : C → CutAnswer T R F X) (close : E → F) (name : T → H) (Inside : R → Type 0) where
+module _ {T R L E F C X H : Type 0} (start : R → Result L E C) (recover : C → CutAnswer T R F X) (close : E → F) (name : T → H) (Inside : R → Type 0) where
   -- The reading that goes on with the run r, behind the log g, ends as a run that ends with e. Its further recoveries have the names hs.
-  pub record Reads (k : ℕ) (g : Log T R) (r : Result S E C) (e : E) (hs : List H) : Type 0 where
+  pub record Reads (k : ℕ) (g : Log T R) (r : Result L E C) (e : E) (hs : List H) : Type 0 where
     pub made : List T
     pub built : List R
     pub same-end : reading start recover close k g r ≡ Reading.ends (record { made = g .made ++ made; built = g .built ++ built }) (close e)
@@ -139,7 +139,7 @@ module _ {T R S E F C X H : Type 0} (start : R → Result S E C) (recover : C �
 -- ---- the whole reading
 
 -- Restarted runs have m commands; a restart takes at most j of them to come back to the chain.
-module _ {T R S E F C X H : Type 0} (faulty : S → Stepped S E C) (start : R → Result S E C) (recover : C → CutAnswer T R F X) (close : E → F) (name : T → H)
+module _ {T R S L E F C X H : Type 0} (faulty : S → Stepped S E C) (shows : S → L) (start : R → Result L E C) (recover : C → CutAnswer T R F X) (close : E → F) (name : T → H)
     (m j : ℕ) (Inside : R → Type 0) where
   -- A cut in the state s, by the faulted data area h, of a chain that goes on at t: the restarted run comes to what the run from t does.
   pub record Mended (h : H) (s t : S) : Type 0 where
@@ -152,7 +152,7 @@ module _ {T R S E F C X H : Type 0} (faulty : S → Stepped S E C) (start : R �
     pub noted : name entry ≡ h
     pub few : used ≤ j
     pub inside : Inside first
-    pub reaches : (n : ℕ) → used + suc n ≡ m → start first ≡ run faulty (suc n) t
+    pub reaches : (n : ℕ) → used + suc n ≡ m → start first ≡ run faulty shows (suc n) t
 
   -- A cut of a chain that ends there with e: recovery answers that end.
   pub record Closed (h : H) (s : S) (e : E) : Type 0 where
@@ -162,35 +162,35 @@ module _ {T R S E F C X H : Type 0} (faulty : S → Stepped S E C) (start : R �
     pub noted : name entry ≡ h
     pub done : recover report ≡ finish entry (close e)
 
-  abbrev Comes : ℕ → Log T R → Result S E C → E → List H → Type 0
+  abbrev Comes : ℕ → Log T R → Result L E C → E → List H → Type 0
   Comes = Reads start recover close name Inside
 
   module _ (b k : ℕ) (g : Log T R) (h : H) (s : S) (e : E) where
-    reads-closed : Closed h s e → Comes (suc k) g (run faulty (suc b) s) e (h ∷ [])
+    reads-closed : Closed h s e → Comes (suc k) g (run faulty shows (suc b) s) e (h ∷ [])
     reads-closed w =
-        rw (run-cuts faulty b s (w .report) (w .is-cut))
+        rw (run-cuts faulty shows b s (w .report) (w .is-cut))
         (reads-finish start recover close name Inside k g (w .report) (w .entry) h e (w .done) (w .noted))
 
     -- the run from t has a command left
-    reads-mended : (t : S) (hs : List H) → Mended h s t → j < m → ((n : ℕ) (g : Log T R) → m ≤ j + suc n → Comes k g (run faulty (suc n) t) e hs)
-        → Comes (suc k) g (run faulty (suc b) s) e (h ∷ hs)
+    reads-mended : (t : S) (hs : List H) → Mended h s t → j < m → ((n : ℕ) (g : Log T R) → m ≤ j + suc n → Comes k g (run faulty shows (suc n) t) e hs)
+        → Comes (suc k) g (run faulty shows (suc b) s) e (h ∷ hs)
     reads-mended t hs w room rest =
         let n : ℕ = m - w .used - 1 in
-        rw (run-cuts faulty b s (w .report) (w .is-cut))
+        rw (run-cuts faulty shows b s (w .report) (w .is-cut))
         (reads-restart start recover close name Inside k g (w .report) (w .entry) h e (w .first) hs (w .built) (w .noted) (w .inside)
         (rw (w .reaches n (omega (arith, w .few))) (rest n _ (omega (arith, w .few)))))
 
   -- `flag` is the faulted data area that the next command takes.
   module _ (clean : S → Stepped S E C) (flag : S → Option H) (P : S → Type 0) (Good : E → Type 0)
       (plain : (s : S) → P s → flag s ≡ none → faulty s ≡ clean s)
-      (mends : (h : H) (s t : S) (n : ℕ) (e : E) → P s → flag s ≡ some h → clean s ≡ goes t → run clean n t ≡ ended e → Good e → Mended h s t)
+      (mends : (h : H) (s t : S) (n : ℕ) (e : E) → P s → flag s ≡ some h → clean s ≡ goes t → run clean shows n t ≡ ended e → Good e → Mended h s t)
       (closes : (h : H) (s : S) (e : E) → P s → flag s ≡ some h → clean s ≡ ends e → Good e → Closed h s e) where
     -- If the faultless run of n commands from s ends with e, so does the reading whose first run has b commands, with k recoveries allowed.
     abbrev pub ReadsLike : ℕ → Type 0
     ReadsLike n =
-        (s : S) (e : E) → run clean n s ≡ ended e → Good e → Along clean P n s → n + j ≤ m
+        (s : S) (e : E) → run clean shows n s ≡ ended e → Good e → Along clean P n s → n + j ≤ m
         → (b k : ℕ) (g : Log T R) → n ≤ b → length (notes clean flag n s) ≤ k
-        → Reads start recover close name Inside k g (run faulty b s) e (notes clean flag n s)
+        → Reads start recover close name Inside k g (run faulty shows b s) e (notes clean flag n s)
 
     pub whole : (n : ℕ) → ReadsLike n
     unfolding run
@@ -202,23 +202,23 @@ module _ {T R S E F C X H : Type 0} (faulty : S → Stepped S E C) (start : R �
         here = along-here clean P n s along
 
         by : ReadsLike n → (o : Stepped S E C) → clean s ≡ o → (f : Option H) → flag s ≡ f → (k′ : ℕ) → k ≡ k′
-            → Comes k g (run faulty (suc b) s) e (notes clean flag (suc n) s)
+            → Comes k g (run faulty shows (suc b) s) e (notes clean flag (suc n) s)
         by like (goes t) q none r k′ z =
-            let rest : run clean n t ≡ ended e = sym (run-goes clean n s t q) ∙ h in
-            rw (notes-goes-none clean flag n s t q r, run-goes faulty b s t (plain s here r ∙ q))
+            let rest : run clean shows n t ≡ ended e = sym (run-goes clean shows n s t q) ∙ h in
+            rw (notes-goes-none clean flag n s t q r, run-goes faulty shows b s t (plain s here r ∙ q))
             (like t e rest good (along-goes clean P n s t q along) (omega arith) b k g (omega arith) (omega (arith, ap length (notes-goes-none clean flag n s t q r))))
         by like (goes t) q (some u) r zero z = absurd (omega (arith, ap length (notes-goes-some clean flag n s t u q r)))
         by like (goes t) q (some u) r (suc k′) z =
-            let rest : run clean n t ≡ ended e = sym (run-goes clean n s t q) ∙ h in
+            let rest : run clean shows n t ≡ ended e = sym (run-goes clean shows n s t q) ∙ h in
             let some-more : length (notes clean flag n t) ≤ k′ = omega (arith, ap length (notes-goes-some clean flag n s t u q r)) in
             rw (z, notes-goes-some clean flag n s t u q r)
             (reads-mended b k′ g u s e t (notes clean flag n t) (mends u s t n e here r q rest good) (omega arith)
             (λ b′ g′ long. like t e rest good (along-goes clean P n s t q along) (omega arith) (suc b′) k′ g′ (omega arith) some-more))
         by like (ends x) q none r k′ z =
-            let same : x ≡ e = cc (run-ends clean n s x q) in
-            rw (notes-ends-none clean flag n s x q r, run-ends faulty b s x (plain s here r ∙ q), same) (reads-ended start recover close name Inside k g e)
+            let same : x ≡ e = cc (run-ends clean shows n s x q) in
+            rw (notes-ends-none clean flag n s x q r, run-ends faulty shows b s x (plain s here r ∙ q), same) (reads-ended start recover close name Inside k g e)
         by like (ends x) q (some u) r zero z = absurd (omega (arith, ap length (notes-ends-some clean flag n s x u q r)))
         by like (ends x) q (some u) r (suc k′) z =
-            let same : x ≡ e = cc (run-ends clean n s x q) in
+            let same : x ≡ e = cc (run-ends clean shows n s x q) in
             rw (z, notes-ends-some clean flag n s x u q r) (reads-closed b k′ g u s e (closes u s e here r (rw same at q) good))
-        by like (cuts c) q f r k′ z = let y : _≡_ {A = ℕ} 0 1 = cc (run-cuts clean n s c q) in absurd (omega arith)
+        by like (cuts c) q f r k′ z = let y : _≡_ {A = ℕ} 0 1 = cc (run-cuts clean shows n s c q) in absurd (omega arith)

@@ -10,17 +10,19 @@ pub data Stepped (S E C : Type 0) : Type 0 where
   ends : E → Stepped S E C
   cuts : C → Stepped S E C
 
--- What a run comes to: an end, a cut, or "limit" with the state behind its last command.
-pub data Result (S E C : Type 0) : Type 0 where
-  ended : E → Result S E C
-  cut : C → Result S E C
-  limit : S → Result S E C
+-- What a run comes to: an end, a cut, or "limit" with what that shows.
+pub data Result (L E C : Type 0) : Type 0 where
+  ended : E → Result L E C
+  cut : C → Result L E C
+  limit : L → Result L E C
 
 module _ {S E C : Type 0} (step : S → Stepped S E C) where
-  -- at most n commands: "A run that begins that many commands without ending fetches no more and answers limit"
-  unfoldable pub run : ℕ → S → Result S E C
-  run zero s = limit s
-  run (suc n) s = elim (step s) [ goes t ↦ run n t | ends e ↦ ended e | cuts c ↦ cut c ]
+  -- at most n commands: "A run that begins that many commands without ending fetches no more and answers 'limit'"; `shows` is what that shows of
+  -- the state behind the last command
+  module _ {L : Type 0} (shows : S → L) where
+    unfoldable pub run : ℕ → S → Result L E C
+    run zero s = limit (shows s)
+    run (suc n) s = elim (step s) [ goes t ↦ run n t | ends e ↦ ended e | cuts c ↦ cut c ]
 
   -- what `note` finds in the commands of a run, in order
   module _ {T : Type 0} (note : S → Option T) where

@@ -15,25 +15,25 @@ pub record Log (T R : Type 0) : Type 0 where
   pub built : List R
 
 -- A reading's end: final, "limit" by a run's own limit or by a cut after the recoveries that are allowed, or "stopped".
-pub data Reading (T R S F C N : Type 0) : Type 0 where
-  ends : Log T R → F → Reading T R S F C N
-  limited : Log T R → S → Reading T R S F C N
-  exhausted : Log T R → C → Reading T R S F C N
-  stops : Log T R → N → C → Reading T R S F C N
+pub data Reading (T R L F C N : Type 0) : Type 0 where
+  ends : Log T R → F → Reading T R L F C N
+  limited : Log T R → L → Reading T R L F C N
+  exhausted : Log T R → C → Reading T R L F C N
+  stops : Log T R → N → C → Reading T R L F C N
 
 -- `start` is a restarted run; `close` makes a run's end a final state.
-module _ {T R S E F C N : Type 0} (start : R → Result S E C) (recover : C → CutAnswer T R F N) (close : E → F) where
+module _ {T R L E F C N : Type 0} (start : R → Result L E C) (recover : C → CutAnswer T R F N) (close : E → F) where
   unfoldable pub noted : Log T R → T → List R → Log T R
   noted g t rs = record { made = g .made ++ t ∷ []; built = g .built ++ rs }
 
   -- k more recoveries are allowed: "It recovers from cuts by a faulted data area, as many as the chain's command limit; a cut after these
-  -- ends it as limit"
-  unfoldable pub reading : ℕ → Log T R → Result S E C → Reading T R S F C N
+  -- ends it as 'limit'"
+  unfoldable pub reading : ℕ → Log T R → Result L E C → Reading T R L F C N
   reading zero g (ended e) = ends g (close e)
   reading zero g (cut c) = exhausted g c
-  reading zero g (limit s) = limited g s
+  reading zero g (limit l) = limited g l
   reading (suc k) g (ended e) = ends g (close e)
-  reading (suc k) g (limit s) = limited g s
+  reading (suc k) g (limit l) = limited g l
   reading (suc k) g (cut c) =
       elim (recover c) [
         | restart t r ↦ reading k (noted g t (r ∷ [])) (start r)

@@ -1,13 +1,15 @@
--- DEMAND 3 of the code: `call-keeps-demand-three`.
-use Prim.Native.Nat.{ℕ, suc}
-use mathlib.Core.Path.{_≡_, refl, ap, sym, _∙_}
+-- DEMAND 3 of the code.
+--   length-made               the recoveries are as many as the faulted data areas
+--   call-keeps-demand-three   the theorem
+use Prim.Native.Nat.{ℕ}
+use mathlib.Core.Path.{_≡_, ap, sym, _∙_}
 use mathlib.Core.Bool.{true}
-use mathlib.Core.List.{List, [], _∷_, map}
 use lib.Dec.{eqb}
-use lib.ListN.{length}
+use lib.ListN.{length, length-map}
 use borrow.Author.Tests.{eq-eqb}
 use Rattle.base.specs.Choice.{pick, opt}
 use Rattle.address.specs.Within.{extentOf}
+use Rattle.drive.specs.Step.{End}
 use Rattle.recovery.specs.Table.{rows}
 use Rattle.demand_three.specs.WholeReading.{Whole, wholeReading, final}
 use Rattle.demand_three.specs.Demand.{Lending, settingOf, Begins, recovered, faultedAreas, LikeFaultless}
@@ -18,9 +20,8 @@ use Rattle.reading_runs.specs.Conclusion.{Conclusion, over, concluded}
 use Rattle.whole_reading.specs.Reading.{readingAreas, readingCall}
 use Rattle.call_demand_three.specs.Demand.{Beside, Lends, CallKeepsDemandThree}
 
-length-map : {A B : Type 0} (f : A → B) (l : List A) → length (map f l) ≡ length l
-length-map f [] = refl
-length-map f (x ∷ l) = ap (λ n. suc n) (length-map f l)
+pub length-made : {g : Lending} {e : End} (like : LikeFaultless g e) → length (like .made) ≡ length (faultedAreas g)
+length-made like = sym (length-map (like .made) recovered) ∙ ap length (like .same-areas)
 
 module _ (g : Lending) (b : Beside) (begins : Begins g) (lends : Lends g b) where
   -- no question is answered with no
@@ -33,16 +34,15 @@ module _ (g : Lending) (b : Beside) (begins : Begins g) (lends : Lends g b) wher
 
 pub call-keeps-demand-three : CallKeepsDemandThree
 unfolding concluded over final
-call-keeps-demand-three g e begins provided b lends r st p a l answers =
+call-keeps-demand-three g e begins provided b lends c answers =
     let like : LikeFaultless g e = demand-three g e begins provided in
     let is =
     answers ∙ begun g b begins lends ∙ ap (λ (q : Whole). concluded q (b .program) (b .restartArguments) (b .list)) (like .same-end) in
-    let many : length (like .made) ≡ length (faultedAreas g) = sym (length-map recovered (like .made)) ∙ ap length (like .same-areas) in
     record {
       like = like;
-      answer = ap (λ (c : Conclusion). c .answer) is ∙ ap (λ (n : ℕ). Over (record { csw = e .csw; made = n; how = Ended })) many;
-      storage = ap (λ (c : Conclusion). c .storage) is;
-      list = ap (λ (c : Conclusion). c .list) is;
-      program = ap (λ (c : Conclusion). c .program) is;
-      restartArguments = ap (λ (c : Conclusion). c .restartArguments) is;
+      answer = ap (λ (k : Conclusion). k .answer) is ∙ ap (λ (n : ℕ). Over (record { csw = e .csw; made = n; how = Ended })) (length-made like);
+      storage = ap (λ (k : Conclusion). k .storage) is;
+      list = ap (λ (k : Conclusion). k .list) is;
+      program = ap (λ (k : Conclusion). k .program) is;
+      restartArguments = ap (λ (k : Conclusion). k .restartArguments) is;
     }

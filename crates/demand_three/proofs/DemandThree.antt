@@ -17,7 +17,7 @@ use Rattle.channel.proofs.InChain.{InChain}
 use Rattle.drive.specs.Drive.{initial}
 use Rattle.channel.specs.Csw.{cswAt}
 use Rattle.drive.specs.Step.{State, End, Cut, Setting, noSense, step}
-use Rattle.drive.specs.Run.{start, ticFirst, runFrom}
+use Rattle.drive.specs.Run.{Limit, limitOf, start, ticFirst, runFrom}
 use Rattle.drive.proofs.Origin as Origin
 use Rattle.recovery.specs.Table.{rows}
 use Rattle.recovery.specs.Recovery.{fetchMode}
@@ -43,12 +43,12 @@ module _ (g : Lending) (e : End) (b : Begins g) (p : Provided g e) where
   no-tic =
       split (ticFirst (w .lent) (Chain 0))
       (λ q.
-      let v : _≡_ {A = Result State End Cut} (ended (record { csw = cswAt (Chain 0) 0 0x20 0; sense = noSense; mask = initial .mask; storage = g .storage })) (ended e) =
+      let v : _≡_ {A = Result Limit End Cut} (ended (record { csw = cswAt (Chain 0) 0 0x20 0; sense = noSense; mask = initial .mask; storage = g .storage })) (ended e) =
       rw q at (p .faultless) in
       absurd (p .sound (rw (← (ended-is v)) refl)))
       (λ q. q)
 
-  runs : run (step [] w) (g .limit) begun ≡ ended e
+  runs : run (step [] w) limitOf (g .limit) begun ≡ ended e
   unfolding runFrom pick
   runs = rw no-tic at (p .faultless)
 
@@ -72,10 +72,10 @@ module _ (g : Lending) (e : End) (b : Begins g) (p : Provided g e) where
       (λ t q. all-fine n t (along-goes (step [] w) (λ s. (fetchMode (s .drive .mask) ≡ false) × Stays s) n s t q h))
 
   reads : Reads (restartedRun (g .faults) w) (recoverCut (givenIn w rows (extentOf (g .extent)))) final recovered (SeeksInside (extentOf (g .extent)))
-      (g .limit) (record { made = []; built = [] }) (run (step (g .faults) w) (g .limit) begun) e (notes (step [] w) (flag (g .faults) w) (g .limit) begun)
+      (g .limit) (record { made = []; built = [] }) (run (step (g .faults) w) limitOf (g .limit) begun) e (notes (step [] w) (flag (g .faults) w) (g .limit) begun)
   reads =
       let small = areas-limit _ _ _ _ _ (g .limit) (b .areas) in
-      whole (step (g .faults) w) (restartedRun (g .faults) w) (recoverCut (givenIn w rows (extentOf (g .extent)))) final recovered restartLimit 260 (SeeksInside (extentOf (g .extent)))
+      whole (step (g .faults) w) limitOf (restartedRun (g .faults) w) (recoverCut (givenIn w rows (extentOf (g .extent)))) final recovered restartLimit 260 (SeeksInside (extentOf (g .extent)))
       (step [] w) (flag (g .faults) w) (Fine g b (p .inside)) Good (λ s fine q. unflagged (g .faults) w s q) (mends g b (p .inside)) (closes g b (p .inside))
       (g .limit) begun e runs (p .sound) (all-fine (g .limit) begun stays) (omega arith)
       (g .limit) (g .limit) (record { made = []; built = [] }) (omega arith) (notes-few (step [] w) (flag (g .faults) w) (g .limit) begun)

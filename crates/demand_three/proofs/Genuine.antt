@@ -1,5 +1,5 @@
--- Recovery from the report of a cut that the trial drive made: questions 4 and 6 to 8 are answered with yes, 9 but for the next CCW,
--- and storage comes out as the faultless read leaves it.
+-- Recovery from the report of a cut that the trial drive made: questions 6 to 8 are answered with yes (`to-five`, `format-is`), 9 but for the next
+-- CCW (`comes-to`), and storage comes out as the faultless read leaves it.
 use Prim.Native.Nat.{ℕ, _+_, _-_, _≤_}
 use native.Mathlib.Omega.{arith}
 use mathlib.Core.Path.{_≡_, refl, ap, ap₂, sym, _∙_}
@@ -63,7 +63,7 @@ module _ (k : Cut) where
   unfolding reportOf cutSense addressBytes two
   track-is = λ i. record { cylinder = two-back (k .at .cylinder) i; head = two-back (k .at .head) i }
 
-  format-is : getD (r .sense) 7 0 ≡ 0x53
+  pub format-is : getD (r .sense) 7 0 ≡ 0x53
   unfolding reportOf cutSense
   format-is = refl
 
@@ -78,6 +78,11 @@ module _ (k : Cut) where
   pattern-is : length (k .pattern) ≡ 3 → part (r .sense) 20 23 ≡ k .pattern
   unfolding reportOf cutSense addressBytes two three part
   pattern-is h = ap (λ n. take n (k .pattern ++ (pick (k .over) 1 0 ∷ []))) (sym h) ∙ take-append-seam (k .pattern) (pick (k .over) 1 0 ∷ [])
+
+  -- so recovery takes action 5, whatever the cut was
+  pub to-five : (g : Given) → g .rows ≡ Table.rows → (st : List ℕ) → recover g r st ≡ actionFive g r st
+  unfolding recover Recovery.act opt pick
+  to-five g rows-are st = rw (rows-are, action-is)
 
 -- ---- recovery from it
 
@@ -192,10 +197,6 @@ module _ (w : Setting) (s : State) (t : Transfer) (y : Record) (f : Fault) (ps :
   unfolding agrees reportOf cswAt
   agreed = rw (eq-eqb (addressOf z + 8) (addressOf z + 8) refl, eq-eqb left left refl, alike-status (incorrectLength c left over))
 
-  to-five : recover g report (k .storage) ≡ actionFive g report (k .storage)
-  unfolding recover Recovery.act opt pick
-  to-five = rw (rows-are, action-is k)
-
   to-walk : actionFive g report (k .storage) ≡ walkedTo g report (k .storage) (retrace g report (k .storage) first-ccw)
   unfolding actionFive opt pick
   to-walk = rw (format-is k, fetches, reads, is-sensible)
@@ -206,7 +207,7 @@ module _ (w : Setting) (s : State) (t : Transfer) (y : Record) (f : Fault) (ps :
 
   -- so it comes to what follows the walk
   pub comes-to : recover g report (k .storage) ≡ afterWalk g report (k .storage) ps z c (incorrectLength c left over)
-  comes-to = to-five ∙ to-walk ∙ ap (walkedTo g report (k .storage)) retraces ∙ to-end
+  comes-to = to-five k g rows-are (k .storage) ∙ to-walk ∙ ap (walkedTo g report (k .storage)) retraces ∙ to-end
 
   -- ---- its answers, where no mask is in PCI fetch mode
   module _ (calm : fetchMode (t .after .mask) ≡ false) where

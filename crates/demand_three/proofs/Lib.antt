@@ -2,5 +2,5 @@ pub mod Genuine
 pub mod Hits
 pub mod Mending
 pub mod DemandThree
-pub mod Example
 pub mod Reported
+pub mod Stopped

@@ -16,7 +16,7 @@ use lib.ListN.{length}
 use borrow.Author.Tests.{leb-true}
 use Rattle.base.specs.Choice.{pick, opt}
 use Rattle.base.specs.Bits.{bitOn}
-use Rattle.base.specs.Bytes.{two}
+use Rattle.base.specs.Bytes.{two, three}
 use Rattle.base.proofs.Choice.{split, and-left, and-right, not-not}
 use Rattle.questions.specs.Areas.{chainFits, argumentsFit, storageFits, imageFits, faultsFit, limitFits, runAreas, restartLimit}
 use Rattle.address.specs.declared.Address.{Address}
@@ -44,11 +44,11 @@ use Rattle.drive.specs.Drive.{Drive, addressBytes}
 use Rattle.drive.specs.Step as Step
 use Rattle.channel.specs.Csw.{cswAt}
 use Rattle.drive.specs.Step.{State, End, Cut, Answer, Setting, plan, step, noSense, lengthStatus, settled, faulted, onward, programCheck, settable}
-use Rattle.drive.specs.Run.{runFrom, ticFirst}
+use Rattle.drive.specs.Run.{Limit, limitOf, runFrom, ticFirst}
 use Rattle.drive.proofs.Steps as Steps
 use Rattle.drive.proofs.Origin as Origin
 use Rattle.drive.proofs.Local.{execute-local, run-joins}
-use Rattle.restart.specs.Restart.{searchProgram, searchArguments, restartArgumentsOf, padded}
+use Rattle.restart.specs.Restart.{ccwBytes, programOf, searchProgram, searchArguments, restartArgumentsOf, padded}
 use Rattle.restart.proofs.Commands as Commands
 use Rattle.restart.proofs.Commands.{placed}
 use Rattle.restart.proofs.Reach.{Sought, Faultless, commands, commands-few, resumes}
@@ -110,14 +110,11 @@ module _ (chain arguments storage image faults limit : ℕ) (h : runAreas chain 
       leb-true limit 4096 (and-right (leb 1 limit) (leb limit 4096)
       (and-right (chainFits chain && argumentsFit arguments && storageFits storage && imageFits image && faultsFit faults) (limitFits limit) h))
 
--- ---- the drive and the mask behind a read
+-- ---- the drive behind a read
 
 drive-is : (d e : Drive) (i : ℕ) (a : Address) → e ≡ Drive.movedPast d i false 0 → d .at ≡ a → e ≡ placed a (e .mask) (i + 1) false
 unfolding Drive.movedPast
 drive-is d e i a h q = rw (h, ← q) refl
-
-legal-set : (m : FileMask) → Origin.legal m → (b : ℕ) → m ≡ Set b → settable b ≡ true
-legal-set m h b e = rw e at h
 
 -- ---- readings
 
@@ -132,7 +129,7 @@ checkedAt l d st = record { csw = cswAt l 0 0x20 0; sense = noSense; mask = d .m
 ends-is : {a b : End} → _≡_ {A = Answer} (ends a) (ends b) → a ≡ b
 ends-is q = cc
 
-pub ended-is : {a b : End} → _≡_ {A = Result State End Cut} (ended a) (ended b) → a ≡ b
+pub ended-is : {a b : End} → _≡_ {A = Result Limit End Cut} (ended a) (ended b) → a ≡ b
 ended-is q = cc
 
 checked-channel : (l : Location) (d : Drive) (st : List ℕ) (e : End) → programCheck l d st ≡ ends e → e .csw .channel ≡ 0x20
@@ -198,7 +195,7 @@ module _ (g : Lending) (b : Begins g) (inside : allInside (extentOf (g .extent))
       settles : {a : Answer} → clean s ≡ a → settled (H .t .bytes) (H .t .after) (s .storage) (walked ps z c left over) ≡ a
       settles e = sym (clean-is ∙ ap (settled (H .t .bytes) (H .t .after) (s .storage)) walk-is) ∙ e
 
-      closed-at : (e : End) → clean s ≡ ends e → Closed faulty (restartedRun fs w) (recoverCut given) final recovered restartLimit 260 (SeeksInside (extentOf (g .extent))) h s e
+      closed-at : (e : End) → clean s ≡ ends e → Closed faulty limitOf (restartedRun fs w) (recoverCut given) final recovered restartLimit 260 (SeeksInside (extentOf (g .extent))) h s e
       unfolding recoverCut answered givenIn recovered entryOf
       closed-at e q =
           let f = settled-ends (H .t .bytes) (H .t .after) (s .storage) ps z c left over e (settles q) in
@@ -275,12 +272,12 @@ module _ (g : Lending) (b : Begins g) (inside : allInside (extentOf (g .extent))
             }
 
         may : (b : ℕ) → m ≡ Set b → settable b ≡ true
-        may = legal-set m (rw (H .from .mask-is) (fine .legal-mask))
+        may = Origin.legal-set m (rw (H .from .mask-is) (fine .legal-mask))
 
         abbrev used : ℕ
         used = commands m counts (H .place)
 
-        reaches : (n : ℕ) → used + suc n ≡ restartLimit → restartedRun fs w first ≡ run faulty (suc n) behind
+        reaches : (n : ℕ) → used + suc n ≡ restartLimit → restartedRun fs w first ≡ run faulty limitOf (suc n) behind
         unfolding restartedRun restartedIn runFrom ticFirst isTic opt pick
         reaches n e =
             let r = resumes w (H .y .at) 0 (H .y .r) to st m counts (H .track) (H .place) d behind fs sought faultless
@@ -288,8 +285,8 @@ module _ (g : Lending) (b : Begins g) (inside : allInside (extentOf (g .extent))
             rw (Commands.fetches w (H .y .at) 0 (H .y .r) to m counts .seek, ← e)
             (r .0 ∙ run-joins fs w (first .program) (first .restartArguments) n _ behind (r .1) (next-in z ends-in-chain))
 
-        mended-at : Mended faulty (restartedRun fs w) (recoverCut given) final recovered restartLimit 260 (SeeksInside (extentOf (g .extent))) h s behind
-        unfolding recovered entryOf searchArguments restartArgumentsOf padded addressBytes two
+        mended-at : Mended faulty limitOf (restartedRun fs w) (recoverCut given) final recovered restartLimit 260 (SeeksInside (extentOf (g .extent))) h s behind
+        unfolding recovered entryOf searchProgram programOf searchArguments restartArgumentsOf padded ccwBytes addressBytes two three
         mended-at = record {
           report = cut-is;
           entry = entryOf kind cut-is;
@@ -299,17 +296,17 @@ module _ (g : Lending) (b : Begins g) (inside : allInside (extentOf (g .extent))
           built = rebuilt;
           noted = sym (H .name-is);
           few = omega (arith, commands-few m counts (H .place), H .below, H .few);
-          inside = (H .y .at, H .inside, refl);
+          inside = record { track = H .y .at; seek = refl; argument = refl; on-pack = H .on-pack; inside = H .inside };
           reaches = reaches;
         }
 
     -- ---- by the walk
 
     abbrev Closes : End → Type 0
-    Closes e = Closed faulty (restartedRun fs w) (recoverCut given) final recovered restartLimit 260 (SeeksInside (extentOf (g .extent))) h s e
+    Closes e = Closed faulty limitOf (restartedRun fs w) (recoverCut given) final recovered restartLimit 260 (SeeksInside (extentOf (g .extent))) h s e
 
     abbrev Mends : State → Type 0
-    Mends t = Mended faulty (restartedRun fs w) (recoverCut given) final recovered restartLimit 260 (SeeksInside (extentOf (g .extent))) h s t
+    Mends t = Mended faulty limitOf (restartedRun fs w) (recoverCut given) final recovered restartLimit 260 (SeeksInside (extentOf (g .extent))) h s t
 
     closes-hit : (e : End) → clean s ≡ ends e → Good e → Closes e
     unfolding settled
@@ -326,15 +323,15 @@ module _ (g : Lending) (b : Begins g) (inside : allInside (extentOf (g .extent))
     unfolding step Step.carry plan Step.dispatch programCheck
     breaks t l e = rw e
 
-    broken-end : (t : State) (l : Location) → resolve (w .lent) (t .last) (t .at) ≡ Broken l → (n : ℕ) (e : End) → run clean n t ≡ ended e → e .csw .channel ≡ 0x20
+    broken-end : (t : State) (l : Location) → resolve (w .lent) (t .last) (t .at) ≡ Broken l → (n : ℕ) (e : End) → run clean limitOf n t ≡ ended e → e .csw .channel ≡ 0x20
     unfolding run cswAt
     broken-end t l broken zero e q = let z : _≡_ {A = ℕ} 0 1 = cc in absurd (omega arith)
-    broken-end t l broken (suc n) e q = ended-check (run-ends clean n t _ (breaks t l broken)) q
+    broken-end t l broken (suc n) e q = ended-check (run-ends clean limitOf n t _ (breaks t l broken)) q
       where
-        ended-check : {r : Result State End Cut} → r ≡ ended (checkedAt l (t .drive) (t .storage)) → r ≡ ended e → e .csw .channel ≡ 0x20
+        ended-check : {r : Result Limit End Cut} → r ≡ ended (checkedAt l (t .drive) (t .storage)) → r ≡ ended e → e .csw .channel ≡ 0x20
         ended-check u v = let k : checkedAt l (t .drive) (t .storage) ≡ e = ended-is (sym u ∙ v) in rw (← k) refl
 
-    module _ (t : State) (q : clean s ≡ goes t) (n : ℕ) (e : End) (rest : run clean n t ≡ ended e) (good : Good e) where
+    module _ (t : State) (q : clean s ≡ goes t) (n : ℕ) (e : End) (rest : run clean limitOf n t ≡ ended e) (good : Good e) where
       module _ (ps : List (Option ℕ)) (z : Location) (c : Ccw) (left : ℕ) (over : Bool) (u : H .t .walk ≡ walked ps z c left over) where
         parts : ((incorrectLength c left over || not (chainsCommand c)) ≡ false) × (behind ps z c left over u ≡ t)
         parts = settled-goes (H .t .bytes) (H .t .after) (s .storage) ps z c left over t (settles ps z c left over u q)
@@ -357,9 +354,9 @@ module _ (g : Lending) (b : Begins g) (inside : allInside (extentOf (g .extent))
               let x : _≡_ {A = ℕ} 0 1 = cc in absurd (omega arith)
 
   pub closes : (h : Named) (s : State) (e : End) → Fine s → flag fs w s ≡ some h → clean s ≡ ends e → Good e
-      → Closed faulty (restartedRun fs w) (recoverCut given) final recovered restartLimit 260 (SeeksInside (extentOf (g .extent))) h s e
+      → Closed faulty limitOf (restartedRun fs w) (recoverCut given) final recovered restartLimit 260 (SeeksInside (extentOf (g .extent))) h s e
   closes h s e fine f q good = closes-hit s fine h (hit g b inside s h f) e q good
 
-  pub mends : (h : Named) (s t : State) (n : ℕ) (e : End) → Fine s → flag fs w s ≡ some h → clean s ≡ goes t → run clean n t ≡ ended e → Good e
-      → Mended faulty (restartedRun fs w) (recoverCut given) final recovered restartLimit 260 (SeeksInside (extentOf (g .extent))) h s t
+  pub mends : (h : Named) (s t : State) (n : ℕ) (e : End) → Fine s → flag fs w s ≡ some h → clean s ≡ goes t → run clean limitOf n t ≡ ended e → Good e
+      → Mended faulty limitOf (restartedRun fs w) (recoverCut given) final recovered restartLimit 260 (SeeksInside (extentOf (g .extent))) h s t
   mends h s t n e fine f q rest good = mends-hit s fine h (hit g b inside s h f) t q n e rest good

@@ -1,6 +1,6 @@
--- DEMAND 3. "For every chain, arguments, storage, image, fault list, extent and command limit that document 01 lets a reading begin with, and
--- however often the faults cut the chain, the whole reading ends, neither as limit nor as stopped. Then storage, ending address, unit and channel
--- status and remaining count equal those of the faultless run."
+-- DEMAND 3 of the contract with the user (README, "The demands"): "For every chain, arguments, storage, image, fault list, extent and command limit
+-- that document 01 lets a reading begin with, and however often the faults cut the chain, the whole reading ends, neither as 'limit' nor as 'stopped'.
+-- Then storage, ending address, unit and channel status and remaining count equal those of the faultless run (same chain, same pack, no faults)."
 --   Begins        what document 01 lets a reading begin with
 --   Provided      "each faulted track lies in the extent, the faultless run sets no file mask in PCI fetch mode, and it ends within the chain's
 --                 command limit and not by a program check"
@@ -15,7 +15,7 @@ use Rattle.base.specs.Choice.{pick}
 use Rattle.questions.specs.Areas.{runAreas}
 use Rattle.address.specs.declared.Address.{Address}
 use Rattle.address.specs.declared.Extent.{Extent}
-use Rattle.address.specs.Order.{lastCylinder}
+use Rattle.address.specs.Order.{lastCylinder, onPack}
 use Rattle.address.specs.Within.{extentOf, within, soundExtent}
 use Rattle.pack.specs.Pack.{packOf}
 use Rattle.image.specs.Image.{wellFormed}
@@ -27,6 +27,7 @@ use Rattle.channel.specs.Csw.{programCheckStatus}
 use Rattle.drive.specs.Drive.{addressBytes}
 use Rattle.drive.specs.Step.{End, Setting, plan, step, Area, areaIn}
 use Rattle.drive.specs.Run.{start, runFrom}
+use Rattle.restart.specs.Restart.{ccwBytes}
 use Rattle.recovery.specs.Table.{rows}
 use Rattle.recovery.specs.Recovery.{fetchMode}
 use Rattle.demand_three.specs.WholeReading.{Entry, Restarted, final, wholeReading}
@@ -95,9 +96,14 @@ faultedOnes (a ∷ rest) = pick (a .faulted) (record { at = a .at; r = a .r } �
 unfoldable pub faultedAreas : Lending → List Named
 faultedAreas g = faultedOnes (notes (step [] (settingOf g)) (λ s. areaIn (g .faults) (plan (settingOf g) s)) (g .limit) (start (Chain 0) (g .storage)))
 
--- the seek argument of a restart names a track of the extent
-abbrev pub SeeksInside : Extent → Restarted → Type 0
-SeeksInside x r = (a : Address) × (within x a ≡ true) × (take 6 (r .restartArguments) ≡ 0 ∷ 0 ∷ addressBytes a)
+-- A restart's own seek: its program's first CCW is the seek whose argument stands at 2000, and that argument names a track that is on the pack
+-- and in the extent.
+pub record SeeksInside (x : Extent) (r : Restarted) : Type 0 where
+  pub track : Address
+  pub seek : take 8 (r .program) ≡ ccwBytes 0x07 0x2000 0x40 6
+  pub argument : take 6 (r .restartArguments) ≡ 0 ∷ 0 ∷ addressBytes track
+  pub on-pack : onPack lastCylinder track ≡ true
+  pub inside : within x track ≡ true
 
 -- the same of each restart that was built
 abbrev pub EachInside : Extent → List Restarted → Type 0

@@ -1,3 +1,4 @@
 pub mod WholeReading
 pub mod Demand
 pub mod Reported
+pub mod Stopped

@@ -12,8 +12,8 @@ use Rattle.abstract_machine.specs.Reading.{CutAnswer, restart, finish, stop, Re
 use Rattle.channel.specs.declared.Location.the-variants.{Chain, Restart}
 use Rattle.channel.specs.declared.Csw.{Csw}
 use Rattle.channel.specs.Ccw.{addressOf}
-use Rattle.drive.specs.Step.{State, End, Cut, cutSense, Setting}
-use Rattle.drive.specs.Run.{runFrom}
+use Rattle.drive.specs.Step.{End, Cut, cutSense, Setting}
+use Rattle.drive.specs.Run.{Limit, runFrom}
 use Rattle.recovery.specs.Table.{Row}
 use Rattle.recovery.specs.Report.{Report}
 use Rattle.recovery.specs.Recovery as Recovery
@@ -49,8 +49,8 @@ reportOf k = record { sense = cutSense k; csw = k .csw; first = addressOf (k .fi
 unfoldable pub entryOf : Kind → Cut → Entry
 entryOf kind k = record { kind = kind; at = k .at; r = k .r }
 
--- "Any other end of a run is its end, as are finished and corrected only (the cut's CSW)." "An action 2 or a number 9 met at a cut ends
--- it as stopped, with that number, the cut's CSW, and storage as the reads left it."
+-- "Any other end of a run is its end, as are 'finished' and 'corrected only' (the cut's CSW)." "An action 2 or a number 9 met at a cut ends
+-- it as 'stopped', with that number, the cut's CSW, and storage as the reads left it."
 unfoldable pub answered : Cut → Recovery.Recovery → CutAnswer Entry Restarted Final Stopped
 answered k (Recovery.refused q) = stop (byQuestion q)
 answered k Recovery.actionOne = stop (byAction 1)
@@ -73,7 +73,7 @@ restartedIn w r = record {
 }
 
 -- "a restarted run has 8,192"; "all meet the whole fault list"
-unfoldable pub restartedRun : List Fault → Setting → Restarted → Result State End Cut
+unfoldable pub restartedRun : List Fault → Setting → Restarted → Result Limit End Cut
 restartedRun fs w r = runFrom fs (restartedIn w r) restartLimit (Restart 0) (r .storage)
 
 -- "Any other end of a run is its end": its CSW and storage
@@ -86,7 +86,7 @@ givenIn w rows x = record { last = w .last; rows = rows; chain = w .lent .chain;
 
 -- how a whole reading ends, with the recoveries that it made and the restarts that it built
 abbrev pub Whole : Type 0
-Whole = Reading Entry Restarted State Final Cut Stopped
+Whole = Reading Entry Restarted Limit Final Cut Stopped
 
 -- The reading of a chain with a command limit, from storage as lent.
 unfoldable pub wholeReading : List Fault → Setting → List Row → Extent → ℕ → List ℕ → Whole

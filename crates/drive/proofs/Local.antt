@@ -23,6 +23,7 @@ use Rattle.drive.specs.declared.Command.{Command}
 use Rattle.drive.specs.declared.Command.the-variants.{NoOperation, Seek, SetMask, SetSector, SearchId, ReadHome, ReadRecord, Unlisted}
 use Rattle.drive.specs.Drive.{Drive}
 use Rattle.drive.specs.Command.{commandOf}
+use Rattle.drive.specs.Run.{limitOf}
 use Rattle.drive.specs.Step as Step
 use Rattle.drive.specs.Step.{State, Answer, DataArea, Setting}
 use Rattle.drive.proofs.Origin.{step-stays}
@@ -87,20 +88,20 @@ module _ (fs : List Fault) (w : Setting) (program arguments : List ℕ) where
   other = Step.step fs (withProgram w program arguments)
 
   -- two runs whose first commands come to the same
-  joined : (n : ℕ) → ((t : State) → InChain (t .at) → run other n t ≡ run (Step.step fs w) n t)
-      → (r s : State) → other r ≡ Step.step fs w s → InChain (s .at) → run other (suc n) r ≡ run (Step.step fs w) (suc n) s
+  joined : (n : ℕ) → ((t : State) → InChain (t .at) → run other limitOf n t ≡ run (Step.step fs w) limitOf n t)
+      → (r s : State) → other r ≡ Step.step fs w s → InChain (s .at) → run other limitOf (suc n) r ≡ run (Step.step fs w) limitOf (suc n) s
   joined n f r s same h = by (Step.step fs w s) refl
     where
-      by : (a : Answer) → Step.step fs w s ≡ a → run other (suc n) r ≡ run (Step.step fs w) (suc n) s
-      by (goes t) e = run-goes other n r t (same ∙ e) ∙ f t (step-stays fs w s t e h) ∙ sym (run-goes (Step.step fs w) n s t e)
-      by (ends x) e = run-ends other n r x (same ∙ e) ∙ sym (run-ends (Step.step fs w) n s x e)
-      by (cuts k) e = run-cuts other n r k (same ∙ e) ∙ sym (run-cuts (Step.step fs w) n s k e)
+      by : (a : Answer) → Step.step fs w s ≡ a → run other limitOf (suc n) r ≡ run (Step.step fs w) limitOf (suc n) s
+      by (goes t) e = run-goes other limitOf n r t (same ∙ e) ∙ f t (step-stays fs w s t e h) ∙ sym (run-goes (Step.step fs w) limitOf n s t e)
+      by (ends x) e = run-ends other limitOf n r x (same ∙ e) ∙ sym (run-ends (Step.step fs w) limitOf n s x e)
+      by (cuts k) e = run-cuts other limitOf n r k (same ∙ e) ∙ sym (run-cuts (Step.step fs w) limitOf n s k e)
 
-  pub run-local : (n : ℕ) (s : State) → InChain (s .at) → run (Step.step fs (withProgram w program arguments)) n s ≡ run (Step.step fs w) n s
+  pub run-local : (n : ℕ) (s : State) → InChain (s .at) → run (Step.step fs (withProgram w program arguments)) limitOf n s ≡ run (Step.step fs w) limitOf n s
   unfolding run
   run-local zero s h = refl
   run-local (suc n) s h = joined n (run-local n) s s (step-local w program arguments fs s h) h
 
   pub run-joins : (n : ℕ) (r s : State) → Step.step fs (withProgram w program arguments) r ≡ Step.step fs w s → InChain (s .at)
-      → run (Step.step fs (withProgram w program arguments)) (suc n) r ≡ run (Step.step fs w) (suc n) s
+      → run (Step.step fs (withProgram w program arguments)) limitOf (suc n) r ≡ run (Step.step fs w) limitOf (suc n) s
   run-joins n r s same h = joined n (run-local n) r s same h

@@ -1,8 +1,8 @@
 -- What a command's plan is made of, and where the command leads: one pass over the definition of a command.
---   legal               a mask that a set mask command may have set
+--   legal, legal-set    a mask that a set mask command may have set
 --   Taken               the record that a read of a data area takes, with its track and place, the read's bytes and the drive behind it
 --   From                a read's first CCW and walk, and `Taken` if it takes a data area
---   AnswerFrom          a chain that goes on stays in the chain and keeps a legal mask
+--   AnswerFrom          an answer that is no cut: a chain that goes on stays in the chain and keeps a legal mask
 --   PlanFrom            a plan is such an answer or such a read
 --   plan-from           that holds of every plan
 --   transfer-from-plan  a read's origin
@@ -10,8 +10,11 @@
 --   first-in            in the chain its first CCW is in the chain
 --   ends-in             so is its last one
 --   places-few          its walk has at most as many places as it has bytes
+--   CutFrom             a cut has the pattern of a fault of the list that names its record, and the mask from before
+--   StepFrom            a command comes to an answer that is no cut, or to such a cut
 --   step-stays          a command in the chain goes on in the chain
 --   step-legal          a command keeps a legal mask legal
+--   step-cuts           a cut is such a cut
 use Prim.Native.Nat.{ℕ, _+_, _≤_, _<_}
 use mathlib.Core.Path.{_≡_, refl, ap}
 use mathlib.Core.Bool.{Bool, true, false, not}
@@ -25,7 +28,7 @@ use Rattle.base.specs.Choice.{pick}
 use Rattle.base.specs.Bytes.{two}
 use Rattle.base.proofs.Choice.{both, both-if, either, either-if, and-right}
 use Rattle.pack.specs.Pack.{Record, Track, trackIn}
-use Rattle.faults.specs.Faults.{Fault}
+use Rattle.faults.specs.Faults.{Fault, naming}
 use Rattle.abstract_machine.specs.Machine.{goes, ends, cuts}
 use Rattle.channel.specs.declared.Ccw.{Ccw}
 use Rattle.channel.specs.declared.Location.{Location}
@@ -76,6 +79,9 @@ abbrev pub legal : FileMask → Type 0
 legal Unset = Unit {0}
 legal (Set m) = Step.settable m ≡ true
 
+pub legal-set : (m : FileMask) → legal m → (b : ℕ) → m ≡ Set b → Step.settable b ≡ true
+legal-set m h b e = rw e at h
+
 -- A read of a data area by the CCW c: the record x that it takes, its bytes, and the drive behind it.
 pub record Taken (w : Setting) (s : State) (c : Ccw) (x : Record) (bytes : List ℕ) (after : Drive) : Type 0 where
   pub kind : Read
@@ -102,11 +108,10 @@ pub record From (w : Setting) (s : State) (t : Transfer) : Type 0 where
   pub walk-is : t .walk ≡ walk (w .lent) (length (s .storage)) (length (t .bytes)) (t .first) ccw (ccw .count) (ccw .address)
   pub data-from : (x : Record) → t .area ≡ dataOf x → Taken w s ccw x (t .bytes) (t .after)
 
--- A chain that goes on from s stays in the chain and keeps a legal mask.
+-- An answer that is no cut. A chain that goes on from s stays in the chain and keeps a legal mask.
 pub data AnswerFrom (s : State) : Answer → Type 0 where
   goes-from : {t : State} → (InChain (s .at) → InChain (t .at)) → (legal (s .drive .mask) → legal (t .drive .mask)) → AnswerFrom s (goes t)
   ends-from : {e : End} → AnswerFrom s (ends e)
-  cuts-from : {k : Cut} → AnswerFrom s (cuts k)
 
 pub data PlanFrom (w : Setting) (s : State) : Plan → Type 0 where
   answer-from : {a : Answer} → AnswerFrom s a → PlanFrom w s (answer a)
@@ -261,6 +266,18 @@ places-few w s t f = rw (f .walk-is) (walk-places (w .lent) _ _ (t .first) _ _ _
 
 -- ---- where a command leads
 
+-- A cut in the state s: the fault that names its record, and the mask of s.
+pub record CutFrom (fs : List Fault) (s : State) (k : Cut) : Type 0 where
+  pub fault : Fault
+  pub named : naming fs (k .at) (k .r) ≡ some fault
+  pub pattern-is : k .pattern ≡ fault .pattern
+  pub mask-is : k .mask ≡ s .drive .mask
+
+-- What a command in the state s comes to under a fault list.
+pub data StepFrom (fs : List Fault) (s : State) : Answer → Type 0 where
+  uncut-from : {a : Answer} → AnswerFrom s a → StepFrom fs s a
+  cuts-from : {k : Cut} → CutFrom fs s k → StepFrom fs s (cuts k)
+
 module _ (s : State) (bs : List ℕ) (d : Drive) (st : List ℕ) where
   settled-from : (k : Walk) → (InChain (s .at) → WalkIn k) → (legal (s .drive .mask) → legal (d .mask)) → AnswerFrom s (Step.settled bs d st k)
   unfolding Step.settled Step.programCheck Step.onward
@@ -272,43 +289,64 @@ module _ (s : State) (bs : List ℕ) (d : Drive) (st : List ℕ) where
   excepted-from (checked ps l) = ends-from
   excepted-from (walked ps l c left over) = ends-from
 
-  faulted-from : (first : Location) (x : Record) (f : Fault) (k : Walk) → AnswerFrom s (Step.faulted first x f bs d st k)
-  unfolding Step.faulted Step.programCheck
-  faulted-from first x f (checked ps l) = ends-from
-  faulted-from first x f (walked ps l c left over) = cuts-from
-
 module _ (fs : List Fault) (w : Setting) (s : State) where
-  clean : (t : Transfer) → From w s t → AnswerFrom s (Step.settled (t .bytes) (t .after) (s .storage) (t .walk))
-  clean t f = settled-from s _ _ _ (t .walk) (ends-in w s t f) (λ g. rw (f .mask-is) g)
+  clean : (t : Transfer) → From w s t → StepFrom fs s (Step.settled (t .bytes) (t .after) (s .storage) (t .walk))
+  clean t f = uncut-from (settled-from s (t .bytes) (t .after) (s .storage) (t .walk) (ends-in w s t f) (λ g. rw (f .mask-is) g))
 
-  by-fault-from : (t : Transfer) (x : Record) (o : Option Fault) → From w s t → AnswerFrom s (Step.byFault t x (s .storage) o)
+  faulted-from : (t : Transfer) (x : Record) (f : Fault) → From w s t → naming fs (x .at) (x .r) ≡ some f
+      → (k : Walk) → StepFrom fs s (Step.faulted (t .first) x f (t .bytes) (t .after) (s .storage) k)
+  unfolding Step.faulted Step.programCheck
+  faulted-from t x f h e (checked ps l) = uncut-from ends-from
+  faulted-from t x f h e (walked ps l c left over) = cuts-from (record { fault = f; named = e; pattern-is = refl; mask-is = h .mask-is })
+
+  by-fault-from : (t : Transfer) (x : Record) (o : Option Fault) → From w s t → naming fs (x .at) (x .r) ≡ o → StepFrom fs s (Step.byFault t x (s .storage) o)
   unfolding Step.byFault
-  by-fault-from t x none f = clean t f
-  by-fault-from t x (some y) f = faulted-from s _ _ _ (t .first) x y (t .walk)
+  by-fault-from t x none f e = clean t f
+  by-fault-from t x (some y) f e = faulted-from t x y f e (t .walk)
 
-  transferred-from : (t : Transfer) (a : DataArea) → From w s t → AnswerFrom s (Step.transferred fs t (s .storage) a)
+  transferred-from : (t : Transfer) (a : DataArea) → From w s t → StepFrom fs s (Step.transferred fs t (s .storage) a)
   unfolding Step.transferred
   transferred-from t nothing f = clean t f
-  transferred-from t empty f = excepted-from s _ _ _ (t .walk)
-  transferred-from t (dataOf x) f = by-fault-from t x _ f
+  transferred-from t empty f = uncut-from (excepted-from s _ _ _ (t .walk))
+  transferred-from t (dataOf x) f = by-fault-from t x _ f refl
 
-  carry-from : (a : Plan) → PlanFrom w s a → AnswerFrom s (Step.carry fs (s .storage) a)
+  carry-from : (a : Plan) → PlanFrom w s a → StepFrom fs s (Step.carry fs (s .storage) a)
   unfolding Step.carry
-  carry-from (answer a) (answer-from h) = h
+  carry-from (answer a) (answer-from h) = uncut-from h
   carry-from (moves t) (moves-from f) = transferred-from t (t .area) f
 
-  step-from : AnswerFrom s (Step.step fs w s)
+  step-from : StepFrom fs s (Step.step fs w s)
   unfolding Step.step
   step-from = carry-from (Step.plan w s) (plan-from w s)
 
-goes-is : (s t : State) (a : Answer) → AnswerFrom s a → a ≡ goes t → (InChain (s .at) → InChain (t .at)) × (legal (s .drive .mask) → legal (t .drive .mask))
-goes-is s t (goes u) (goes-from h g) e = let z : u ≡ t = cc in rw (← z) (h, g)
-goes-is s t (ends x) h e = let z : _≡_ {A = ℕ} 0 1 = cc in absurd (omega arith)
-goes-is s t (cuts k) h e = let z : _≡_ {A = ℕ} 0 1 = cc in absurd (omega arith)
+-- ---- by what a command came to
+
+abbrev Onward : State → State → Type 0
+Onward s t = (InChain (s .at) → InChain (t .at)) × (legal (s .drive .mask) → legal (t .drive .mask))
+
+uncut-goes : (s t : State) (a : Answer) → AnswerFrom s a → a ≡ goes t → Onward s t
+uncut-goes s t (goes u) (goes-from h g) e = let z : u ≡ t = cc in rw (← z) (h, g)
+uncut-goes s t (ends x) h e = let z : _≡_ {A = ℕ} 0 1 = cc in absurd (omega arith)
+uncut-goes s t (cuts k) h e = let z : _≡_ {A = ℕ} 0 1 = cc in absurd (omega arith)
+
+goes-is : (fs : List Fault) (s t : State) (a : Answer) → StepFrom fs s a → a ≡ goes t → Onward s t
+goes-is fs s t a (uncut-from h) e = uncut-goes s t _ h e
+goes-is fs s t a (cuts-from h) e = let z : _≡_ {A = ℕ} 0 1 = cc in absurd (omega arith)
+
+uncut : {A : Type 0} (s : State) (a : Answer) → AnswerFrom s a → (k : Cut) → a ≡ cuts k → A
+uncut s a (goes-from h g) k e = let z : _≡_ {A = ℕ} 0 1 = cc in absurd (omega arith)
+uncut s a ends-from k e = let z : _≡_ {A = ℕ} 0 1 = cc in absurd (omega arith)
+
+cuts-is : (fs : List Fault) (s : State) (k : Cut) (a : Answer) → StepFrom fs s a → a ≡ cuts k → CutFrom fs s k
+cuts-is fs s k a (uncut-from h) e = uncut s _ h k e
+cuts-is fs s k a (cuts-from {k = j} h) e = let z : j ≡ k = cc in rw (← z) h
 
 module _ (fs : List Fault) (w : Setting) (s t : State) (e : Step.step fs w s ≡ goes t) where
   pub step-stays : InChain (s .at) → InChain (t .at)
-  step-stays = goes-is s t _ (step-from fs w s) e .0
+  step-stays = goes-is fs s t _ (step-from fs w s) e .0
 
   pub step-legal : legal (s .drive .mask) → legal (t .drive .mask)
-  step-legal = goes-is s t _ (step-from fs w s) e .1
+  step-legal = goes-is fs s t _ (step-from fs w s) e .1
+
+pub step-cuts : (fs : List Fault) (w : Setting) (s : State) (k : Cut) → Step.step fs w s ≡ cuts k → CutFrom fs s k
+step-cuts fs w s k e = cuts-is fs s k _ (step-from fs w s) e

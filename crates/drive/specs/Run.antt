@@ -10,6 +10,7 @@ use Rattle.channel.specs.declared.Csw.{Csw}
 use Rattle.channel.specs.Ccw.{Lent, isTic, fetch}
 use Rattle.channel.specs.Csw.{cswAt, endStatus, programCheckStatus}
 use Rattle.drive.specs.Drive.{initial}
+use Rattle.drive.specs.declared.FileMask.{FileMask}
 use Rattle.drive.specs.Step.{State, End, Cut, noSense, Setting, step}
 
 -- "A run starts at cylinder 0, head 0, at the index, with no mask."
@@ -20,13 +21,19 @@ start l st = record { at = l; last = l; left = 0; drive = initial; storage = st 
 unfoldable pub ticFirst : Lent → Location → Bool
 ticFirst p l = opt (fetch p l) false isTic
 
+-- What "limit" shows: the last CSW, the file mask, storage.
+pub record Limit : Type 0 where
+  pub csw : Csw
+  pub mask : FileMask
+  pub storage : List ℕ
+
+-- "answers 'limit' with its last CSW": that of the last command, behind which the chain went on
+unfoldable pub limitOf : State → Limit
+limitOf s = record { csw = cswAt (s .last) endStatus 0 (s .left); mask = s .drive .mask; storage = s .storage }
+
 -- A run with at most n commands.
-unfoldable pub runFrom : List Fault → Setting → ℕ → Location → List ℕ → Result State End Cut
+unfoldable pub runFrom : List Fault → Setting → ℕ → Location → List ℕ → Result Limit End Cut
 runFrom fs w n l st =
     pick (ticFirst (w .lent) l)
     (ended (record { csw = cswAt l 0 programCheckStatus 0; sense = noSense; mask = initial .mask; storage = st }))
-    (run (step fs w) n (start l st))
-
--- "answers limit with its last CSW"
-unfoldable pub limitCsw : State → Csw
-limitCsw s = cswAt (s .last) endStatus 0 (s .left)
+    (run (step fs w) limitOf n (start l st))

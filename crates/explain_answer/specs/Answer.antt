@@ -57,7 +57,7 @@ mendedText TenA sense st = []
 unfoldable pub restartText : Kind → (sense storage program restartArguments : List ℕ) → List ℕ
 restartText k sense st p a = actionLine (restartIndex k) ++ mendedText k sense st ++ ccwLines (ascii "restart") 0x1000 p a (usedIn p)
 
--- "finished with the CSW less unit check"
+-- "'finished' with the CSW less unit check"
 unfoldable pub finishedText : Csw → (sense storage : List ℕ) → List ℕ
 finishedText w sense st = actionLine 4 ++ correctionText sense st ++ cswLine w
 

@@ -15,11 +15,12 @@ use Rattle.base.specs.Bytes.{part}
 use Rattle.base.proofs.Bytes.{to-end}
 use Rattle.text.specs.Text.{Puts, ascii}
 use Rattle.text.proofs.Written.{puts-then}
+use Rattle.questions.specs.declared.Question.{Question}
 use Rattle.questions.specs.declared.Question.the-variants as Question
 use Rattle.recovery.specs.Report.{reportFrom}
 use Rattle.report.specs.declared.Report as Code
 use Rattle.report.specs.declared.Reported.{Reported}
-use Rattle.report.specs.declared.Reported.the-variants.{Well, Ill}
+use Rattle.report.specs.declared.Reported.the-variants.{Well, Refused}
 use Rattle.report.specs.Reported.{reportedOf, Bounds, Bounded}
 use Rattle.recovered.specs.declared.Recovered.{Recovered}
 use Rattle.recovered.specs.Applied.{with}
@@ -48,7 +49,7 @@ module _ (s : List ℕ) (o : Reported) (e : reportedOf s o ≡ reportFrom s) whe
   unfolding senseOf opt part
   well-sense h = rw (← e, h)
 
-  pub ill-sense : o ≡ Ill → replicate 24 0 ≡ senseOf s
+  pub ill-sense : {q : Question} → o ≡ Refused q → replicate 24 0 ≡ senseOf s
   unfolding senseOf opt
   ill-sense h = rw (← e, h)
 

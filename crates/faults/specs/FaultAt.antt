@@ -58,6 +58,6 @@ NamedFrom s at a r b = (fs : List Fault) → faultsAt s at ≡ some fs → not b
 abbrev pub FaultSound : List ℕ → Listed → Bool → Type 0
 FaultSound image l b = (d : Decoded) → decodeAt image 0 ≡ some d → b ≡ soundFault (d .tracks) (faultFrom l)
 
--- the same of the whole list
+-- The same of the whole list. For an image that does not decode nothing is said of the answer.
 abbrev pub FaultsSound : List ℕ → List ℕ → Bool → Type 0
 FaultsSound image s b = (d : Decoded) → decodeAt image 0 ≡ some d → b ≡ soundFrom (d .tracks) s 0

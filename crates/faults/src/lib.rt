@@ -120,7 +120,7 @@ fn sound_fault(image: &[u8], l: Listed) -> bool
     n <= p.next - p.body
 }
 
-// Whether each fault of the list is sound, and each record is named once.
+// Whether each fault of the list is sound, and each record is named once; for an image that does not decode, the answer is open.
 pub fn sound_faults(image: &[u8], faults: &[u8]) -> bool
     ensures { λ r. ⌜ FaultsSound (now (image .entry)) (now (faults .entry)) r ⌝ }
 {

@@ -1,5 +1,6 @@
 -- What the call of a reading hands out: a number, and the bytes of the lent areas.
 use Prim.Native.Nat.{ℕ}
+use mathlib.Core.Path.{_≡_}
 use mathlib.Core.List.{List}
 use lib.Dec.{eqb}
 use lib.ListN.{length}
@@ -31,3 +32,7 @@ concludedHanding b k = readingHanding (readingReturn (k .answer)) (readingAnswer
 unfoldable pub readingHanded : (chain arguments st image faults extent : List ℕ) → ℕ → (p a l answer : List ℕ) → ReadingHanded
 readingHanded chain arguments st image faults extent n p a l b =
     pick (eqb (length b) 11) (concludedHanding b (readingCall chain arguments st image faults extent n p a l)) (readingHanding (numberOf Question.Areas) b st p a l)
+
+-- The contract of the call: with these areas, this limit and this answer area it hands out h.
+abbrev pub ReadingHandsOut : (chain arguments st image faults extent : List ℕ) → ℕ → (p a l answer : List ℕ) → ReadingHanded → Type 0
+ReadingHandsOut chain arguments st image faults extent n p a l b h = h ≡ readingHanded chain arguments st image faults extent n p a l b

@@ -13,7 +13,7 @@ ghost use Rattle.giruve.specs.Areas.{runAnswer, restartAnswer};
 ghost use Rattle.recover.specs.Recover.{recoverCall};
 ghost use Rattle.giruve.specs.Run.{HandsOut, runHanding, runHanded};
 ghost use Rattle.giruve.specs.Recover.{recoveryHanding, recoveryHanded};
-ghost use Rattle.giruve.specs.Reading.{readingHanding, readingHanded};
+ghost use Rattle.giruve.specs.Reading.{readingHanding, ReadingHandsOut};
 
 // Questions 1 and 2: 0, 1 or 2.
 #[no_mangle]
@@ -186,8 +186,8 @@ pub extern "C" fn giruve_reading(
 ) -> u8
     ensures { λ r.
         let after = readingHanding r (now (answer .exit)) (now (storage .exit)) (now (program .exit)) (now («restart_arguments» .exit)) (now (list .exit)) in
-        ⌜ after ≡ readingHanded (now (chain .entry)) (now (arguments .entry)) (now (storage .entry)) (now (image .entry)) (now (faults .entry))
-        (now (extent .entry)) limit (now (program .entry)) (now («restart_arguments» .entry)) (now (list .entry)) (now (answer .entry)) ⌝ }
+        ⌜ ReadingHandsOut (now (chain .entry)) (now (arguments .entry)) (now (storage .entry)) (now (image .entry)) (now (faults .entry))
+        (now (extent .entry)) limit (now (program .entry)) (now («restart_arguments» .entry)) (now (list .entry)) (now (answer .entry)) after ⌝ }
 {
     if answer.len() != 11 {
         return questions::number(Question::Areas);

@@ -11,7 +11,7 @@ use Rattle.demand_three.specs.WholeReading.{Entry, Stopped, byAction, byQuestio
 unfoldable pub entryBytes : Entry → List ℕ
 entryBytes t = actionNumber (kindOf (t .kind)) ∷ addressBytes (t .at) ++ t .r ∷ []
 
--- "An action 2 or a number 9 met at a cut ends it as stopped, with that number"
+-- "An action 2 or a number 9 met at a cut ends it as 'stopped', with that number"
 unfoldable pub stoppedNumber : Stopped → ℕ
 stoppedNumber (byAction n) = n
 stoppedNumber (byQuestion q) = numberOf q

@@ -57,7 +57,7 @@ storageLine st = bytesText (take 16 st) ++ ascii "\n"
 abbrev pub room : ℕ
 room = 86077
 
--- "a refusal prints only refused and its number"
+-- "a refusal prints only 'refused' and its number"
 unfoldable pub refusalLine : Question → List ℕ
 refusalLine q = refusedText q ++ ascii "\n"
 

@@ -18,12 +18,11 @@ use Rattle.abstract_machine.specs.Reading as Reading
 use Rattle.abstract_machine.specs.Reading.{Log}
 use Rattle.abstract_machine.proofs.Whole.{reading-ended, reading-limited, reading-exhausted, reading-restart, reading-finish, reading-stop}
 use Rattle.channel.specs.declared.Csw.{Csw}
-use Rattle.channel.specs.Csw.{cswAt}
 use Rattle.drive.specs.Step as Step
-use Rattle.drive.specs.Run.{limitCsw}
+use Rattle.drive.specs.Run.{Limit}
 use Rattle.command.specs.declared.Cut.{Cut}
 use Rattle.command.specs.declared.End.{End}
-use Rattle.command.specs.declared.State.{State}
+use Rattle.trial.specs.declared.Limit as Code
 use Rattle.trial.specs.declared.Ran.{Ran}
 use Rattle.trial.specs.declared.Ran.the-variants as Ran
 use Rattle.trial.specs.Run.{ranOf}
@@ -124,12 +123,11 @@ module _ (chain arguments image faults : List ℕ) (x : Extent) (n : ℕ) (first
         (λ fs. over-is z (o .0) made y (o .1) Ended (e .csw)
         ∙ ap shown (sym (reading-ended _ _ _ (n - made) (o .0) _)))
 
-    pub on-limited : (s : State) (w : Csw) → Onward made (Ran.Limited s) y → w ≡ cswAt (s .last) 0x0c 0 (s .left) → Ends made Limited w y
-    unfolding concluded limitCsw
-    on-limited s w o e =
-        concludes y made (Ran.Limited s) o _
-        (λ fs. over-is z (o .0) made y (o .1) Limited w
-        ∙ ap (λ (v : Csw). over (o .0) Limited v (y .storage) (z .program) (z .restartArguments) (z .list)) e
+    pub on-limited : (m : Code.Limit) → Onward made (Ran.Limited m) y → Ends made Limited (m .csw) y
+    unfolding concluded
+    on-limited m o =
+        concludes y made (Ran.Limited m) o _
+        (λ fs. over-is z (o .0) made y (o .1) Limited (m .csw)
         ∙ ap shown (sym (reading-limited _ _ _ (n - made) (o .0) _)))
 
     module _ (k : Cut) (o : Onward made (Ran.Cut k) y) where
@@ -169,5 +167,5 @@ module _ (chain arguments image faults : List ℕ) (x : Extent) (n : ℕ) (first
           logged-restart z (o .0) made y (o .1) t y′ q b p a,
           λ fs l.
               o .2 fs l ∙ some-left fs ∙ reading-restart _ _ _ (n - (made + 1)) (o .0) _ t b e
-              ∙ ap (λ (m : Result Step.State Step.End Step.Cut). readOn fs (toldOf chain arguments image) x (n - (made + 1)) (record { made = o .0 .made ++ t ∷ []; built = o .0 .built ++ b ∷ [] }) m) (runs fs l),
+              ∙ ap (λ (m : Result Limit Step.End Step.Cut). readOn fs (toldOf chain arguments image) x (n - (made + 1)) (record { made = o .0 .made ++ t ∷ []; built = o .0 .built ++ b ∷ [] }) m) (runs fs l),
         )

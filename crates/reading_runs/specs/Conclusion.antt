@@ -4,7 +4,6 @@ use mathlib.Core.List.{List, [], _∷_, _++_}
 use lib.ListN.{length, drop}
 use Rattle.abstract_machine.specs.Reading.{Log, ends, limited, exhausted, stops}
 use Rattle.channel.specs.declared.Csw.{Csw}
-use Rattle.drive.specs.Run.{limitCsw}
 use Rattle.location.specs.Low.{CswLow}
 use Rattle.demand_three.specs.WholeReading.{Entry, Restarted, Whole}
 use Rattle.reading_cut.specs.Entry.{entryBytes, stoppedNumber}
@@ -58,7 +57,7 @@ over g h w st p a l =
 -- "the cut's CSW"; each with "storage as the reads left it".
 unfoldable pub concluded : Whole → (program restartArguments list : List ℕ) → Conclusion
 concluded (ends g f) p a l = over g Ended (f .csw) (f .storage) p a l
-concluded (limited g s) p a l = over g Limited (limitCsw s) (s .storage) p a l
+concluded (limited g m) p a l = over g Limited (m .csw) (m .storage) p a l
 concluded (exhausted g k) p a l = over g Limited (k .csw) (k .storage) p a l
 concluded (stops g n k) p a l = over g (Stop (stoppedNumber n)) (k .csw) (k .storage) p a l
 

@@ -8,6 +8,7 @@ use Rattle.address.specs.declared.Extent.{Extent}
 use Rattle.abstract_machine.specs.Machine.{Result}
 use Rattle.abstract_machine.specs.Reading.{Log, reading}
 use Rattle.drive.specs.Step as Step
+use Rattle.drive.specs.Run.{Limit}
 use Rattle.trial.specs.declared.Ran.{Ran}
 use Rattle.trial.specs.Run.{ranOf}
 use Rattle.recovery.specs.Table.{rows}
@@ -22,7 +23,7 @@ abbrev pub noLog : Log Entry Restarted
 noLog = record { made = []; built = [] }
 
 -- a reading from what a run came to, with k recoveries allowed
-abbrev pub readOn : List Fault → Step.Setting → Extent → ℕ → Log Entry Restarted → Result Step.State Step.End Step.Cut → Whole
+abbrev pub readOn : List Fault → Step.Setting → Extent → ℕ → Log Entry Restarted → Result Limit Step.End Step.Cut → Whole
 readOn fs w x k g r = reading (restartedRun fs w) (recoverCut (givenIn w rows x)) final k g r
 
 -- What the code makes of the first run's result, with n recoveries allowed: its answer and the areas behind it are the definitions'.

@@ -69,10 +69,10 @@ pub fn read_on(
                     how: How::Ended,
                 };
             }
-            Ran::Limited(s) => {
-                let last = s.last;
+            Ran::Limited(m) => {
+                let w = m.csw;
                 return Over {
-                    csw: location::csw_at(last, channel::END_STATUS, 0, s.left),
+                    csw: w,
                     made: made,
                     how: How::Limited,
                 };

@@ -13,6 +13,7 @@ use borrow.Author.Tests.{eqb-true, leb-true}
 use Rattle.base.specs.Choice.{pick, opt}
 use Rattle.base.specs.Bytes.{part}
 use Rattle.base.proofs.Choice.{pick-true, pick-false, and-left, and-right}
+use Rattle.questions.specs.declared.Question.{Question}
 use Rattle.questions.specs.declared.Question.the-variants as Question
 use Rattle.questions.specs.Areas.{chainFits, storageFits, programFits, restartArgumentsFit, restartAreas}
 use Rattle.address.specs.declared.Extent.{Extent}
@@ -23,8 +24,9 @@ use Rattle.recovery.specs.Recovery as Recovery
 use Rattle.recovery.specs.Report.{reportFrom}
 use Rattle.report.specs.declared.Report as Code
 use Rattle.report.specs.declared.Reported.{Reported}
-use Rattle.report.specs.declared.Reported.the-variants.{Well, Ill}
-use Rattle.report.specs.Reported.{reportOf, reportedOf, seekOf}
+use Rattle.report.specs.declared.Reported.the-variants as Reported
+use Rattle.report.specs.declared.Reported.the-variants.{Well}
+use Rattle.report.specs.Reported.{reportOf, reportedOf, seekOf, Bounded}
 use Rattle.recovered.specs.declared.Recovered.the-variants.{Refused}
 use Rattle.recovered.specs.Applied.{Applied, with, applied, givenOf}
 use Rattle.action_eight_ten.specs.declared.User.{User}
@@ -80,9 +82,13 @@ module _ (chain report extent st p a : List ℕ) where
   wrong-areas h = sym (pick-false _ _ h)
 
   module _ (h : recoverAreas (length chain) (length st) (length p) (length a) (length extent) ≡ true) where
-    pub ill-formed : (r : Reported) → reportedOf report r ≡ reportFrom report → r ≡ Ill → with (Refused Question.Report) st p a ≡ recoverCall chain report extent st p a
+    pub ill-formed : (r : Reported) (q : Question) → reportedOf report r ≡ reportFrom report → Bounded report r → r ≡ Reported.Refused q
+        → with (Refused q) st p a ≡ recoverCall chain report extent st p a
     unfolding recoverCall refusal opt
-    ill-formed r e f = let ill : none ≡ reportFrom report = rw f at e in sym (pick-true _ _ h ∙ rw (← ill))
+    ill-formed r q e b f =
+        let ill : none ≡ reportFrom report = rw f at e in
+        let four : q ≡ Question.Report = rw f at b in
+        rw four (sym (pick-true _ _ h ∙ rw (← ill)))
 
     module _ (r : Reported) (w : Code.Report) (e : reportedOf report r ≡ reportFrom report) (f : r ≡ Well w) where
       reported : some (reportOf report w) ≡ reportFrom report

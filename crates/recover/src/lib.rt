@@ -176,8 +176,11 @@ pub fn recover(
     ) {
         return Recovered::Refused(Question::Areas);
     }
-    let Reported::Well(r) = report::read(report) else {
-        return Recovered::Refused(Question::Report);
+    let r = match report::read(report) {
+        Reported::Well(w) => w,
+        Reported::Refused(q) => {
+            return Recovered::Refused(q);
+        }
     };
     let x = address::extent_of(extent);
     if !x.on_pack(address::LAST_CYLINDER) {

@@ -87,7 +87,7 @@ unfoldable pub fetchMode : FileMask → Bool
 fetchMode Unset = false
 fetchMode (Set m) = bitOn 7 m
 
--- "incorrect length or no CC, finished with the CSW less unit check"
+-- "incorrect length or no CC, 'finished' with the CSW less unit check"
 unfoldable pub lessUnitCheck : Csw → Csw
 lessUnitCheck w = record { address = w .address; unit = w .unit - pick (bitOn 6 (w .unit)) unitCheck 0; channel = w .channel; count = w .count }
 
@@ -175,7 +175,7 @@ module _ (g : Given) (r : Report) (st : List ℕ) where
       (correction (r .sense) ps st))
       actionTwo
 
-  -- "Then: mask bit 7 .. on, corrected only; incorrect length or no CC, finished ..; else restart"
+  -- "Then: mask bit 7 .. on, 'corrected only'; incorrect length or no CC, 'finished' ..; else restart"
   unfoldable pub afterWalk : List (Option ℕ) → Location → Ccw → Bool → Recovery
   afterWalk ps l c wrong =
       pick (fetchMode (r .mask)) (correctedOnly (correction (r .sense) ps st))

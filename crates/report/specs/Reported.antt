@@ -7,6 +7,7 @@ use lib.Dec.{eqb}
 use lib.ListN.{length}
 use Rattle.base.specs.Choice.{pick, opt}
 use Rattle.base.specs.Bytes.{part}
+use Rattle.questions.specs.declared.Question.the-variants as Question
 use Rattle.fields.specs.declared.Wanted.{Wanted}
 use Rattle.fields.specs.declared.Wanted.the-variants.{Found, Missing}
 use Rattle.fields.specs.Fields.{Field, fieldsAt}
@@ -18,7 +19,7 @@ use Rattle.report.specs.declared.Seek.{Seek}
 use Rattle.report.specs.declared.Seek.the-variants.{At, Absent}
 use Rattle.report.specs.declared.Report as Code
 use Rattle.report.specs.declared.Reported.{Reported}
-use Rattle.report.specs.declared.Reported.the-variants.{Well, Ill}
+use Rattle.report.specs.declared.Reported.the-variants.{Well, Refused}
 
 -- the field of one tag and length at a place, if it stands there
 unfoldable pub sizedAt : List ℕ → ℕ → ℕ → ℕ → Wanted
@@ -38,7 +39,7 @@ reportOf s r = record { sense = part s 3 27; csw = r .csw; first = r .first; mas
 -- the report, if it is well formed
 abbrev pub reportedOf : List ℕ → Reported → Option Report.Report
 reportedOf s (Well r) = some (reportOf s r)
-reportedOf s Ill = none
+reportedOf s (Refused q) = none
 
 -- ---- what is ensured
 
@@ -63,7 +64,7 @@ pub record Bounds (s : List ℕ) (r : Code.Report) : Type 0 where
   pub first : r .first < 65536
   pub seek : SeekInside s (r .seek)
 
--- A well-formed report has these bounds.
+-- A well-formed report has these bounds; any other is refused by question 4: "Is the report well formed?"
 abbrev pub Bounded : List ℕ → Reported → Type 0
 Bounded s (Well r) = Bounds s r
-Bounded s Ill = Unit
+Bounded s (Refused q) = q ≡ Question.Report

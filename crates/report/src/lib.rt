@@ -2,6 +2,7 @@
 use channel::Csw;
 use drive::FileMask;
 use fields::Wanted;
+use questions::Question;
 ghost use mathlib.Core.Path.{_≡_};
 ghost use Prim.Native.Nat.{_+_, _<_, _≤_};
 ghost use lib.ListN.{length};
@@ -27,9 +28,10 @@ pub struct Report {
     pub tries: usize,
 }
 
+// A report, or the refusal by question 4.
 pub enum Reported {
     Well(Report),
-    Ill,
+    Refused(Question),
 }
 
 // The field of one tag at a place, if its contents have n bytes.
@@ -71,10 +73,10 @@ fn with_tries(
         });
     }
     let Wanted::Found { start, next } = sized_at(report, at, 0x15, 1) else {
-        return Reported::Ill;
+        return Reported::Refused(Question::Report);
     };
     if next < report.len() {
-        return Reported::Ill;
+        return Reported::Refused(Question::Report);
     }
     Reported::Well(Report {
         csw: csw,
@@ -108,7 +110,7 @@ fn with_mask(report: &[u8], at: usize, csw: Csw, first: usize) -> Reported
     };
     let m = report[start];
     if !drive::settable(m) {
-        return Reported::Ill;
+        return Reported::Refused(Question::Report);
     }
     with_seek(report, next, csw, first, FileMask::Set(m))
 }
@@ -128,7 +130,7 @@ fn csw_in(report: &[u8], at: usize) -> Csw
     }
 }
 
-// The report that bytes are, or that they are none.
+// The report that bytes are, or the refusal by question 4.
 pub fn read(report: &[u8]) -> Reported
     ensures { λ r. ⌜ reportedOf (now (report .entry)) r ≡ reportFrom (now (report .entry)) ⌝ }
     ensures { λ r. ⌜ Bounded (now (report .entry)) r ⌝ }
@@ -138,24 +140,24 @@ pub fn read(report: &[u8]) -> Reported
         next: second,
     } = sized_at(report, 0, 0x10, 24)
     else {
-        return Reported::Ill;
+        return Reported::Refused(Question::Report);
     };
     let Wanted::Found {
         start: csw,
         next: third,
     } = sized_at(report, second, 0x11, 8)
     else {
-        return Reported::Ill;
+        return Reported::Refused(Question::Report);
     };
     let Wanted::Found {
         start: first,
         next: rest,
     } = sized_at(report, third, 0x12, 2)
     else {
-        return Reported::Ill;
+        return Reported::Refused(Question::Report);
     };
     if report[csw] != 0 {
-        return Reported::Ill;
+        return Reported::Refused(Question::Report);
     }
     with_mask(report, rest, csw_in(report, csw), base::be16(report, first))
 }

@@ -38,7 +38,7 @@ use Rattle.drive.specs.Drive as Drive
 use Rattle.drive.specs.Drive.{Drive, noRecord}
 use Rattle.drive.specs.Step as Step
 use Rattle.drive.specs.Step.{State, Setting, execute, answer, carry, plan, step, settable}
-use Rattle.drive.specs.Run.{start}
+use Rattle.drive.specs.Run.{limitOf, start}
 use Rattle.restart.proofs.Commands
 use Rattle.restart.proofs.Commands.{restarted, standing, placed, ahead, searchCcw, sectorAt, searchAt, countAt, lastAt}
 use Rattle.restart.proofs.Join.{execute-five, execute-five-a}
@@ -162,18 +162,18 @@ module _ (fs : List Fault) (w : Setting) (a : Address) (sector r to : ℕ) (st :
       (Commands.execute-sector w a sector r to m counts (sectorAt m) st (placed a m 0 false) low)
 
   pub to-search : (m : FileMask) (counts : Bool) → ((b : ℕ) → m ≡ Set b → settable b ≡ true) → onPack (w .last) a ≡ true → sector < 128 → (n : ℕ)
-      → run (does m counts) (controls m + n) (start (Restart 0) st) ≡ run (does m counts) n (standing (Restart (sectorAt m)) (Restart (searchAt m)) (placed a m 0 false) st)
+      → run (does m counts) limitOf (controls m + n) (start (Restart 0) st) ≡ run (does m counts) limitOf n (standing (Restart (sectorAt m)) (Restart (searchAt m)) (placed a m 0 false) st)
   to-search Unset counts may on-pack low n =
       let F : State → Step.Answer = does Unset counts in
       rw (suc-add 1 n, suc-add 0 n, zero-add n)
-      (run-goes F (suc n) _ _ (step-seek Unset counts on-pack)
-      ∙ run-goes F n _ _ (step-sector Unset counts (Restart 0) low))
+      (run-goes F limitOf (suc n) _ _ (step-seek Unset counts on-pack)
+      ∙ run-goes F limitOf n _ _ (step-sector Unset counts (Restart 0) low))
   to-search (Set b) counts may on-pack low n =
       let F : State → Step.Answer = does (Set b) counts in
       rw (suc-add 2 n, suc-add 1 n, suc-add 0 n, zero-add n)
-      (run-goes F (suc (suc n)) _ _ (step-seek (Set b) counts on-pack)
-      ∙ run-goes F (suc n) _ _ (step-mask b counts (may b refl))
-      ∙ run-goes F n _ _ (step-sector (Set b) counts (Restart 8) low))
+      (run-goes F limitOf (suc (suc n)) _ _ (step-seek (Set b) counts on-pack)
+      ∙ run-goes F limitOf (suc n) _ _ (step-mask b counts (may b refl))
+      ∙ run-goes F limitOf n _ _ (step-sector (Set b) counts (Restart 8) low))
 
   -- ---- the searches
 
@@ -196,23 +196,23 @@ module _ (fs : List Fault) (w : Setting) (a : Address) (sector r to : ℕ) (st :
 
     -- g places are before the record's
     search-loop : (g j : ℕ) → j + g ≡ i → (passed : Bool) (last l : Location) → resolve (w′ m counts .lent) last l ≡ Got (Restart (searchAt m)) searchCcw → (n : ℕ)
-        → run (does m counts) (suc g + n) (standing last l (placed a m j passed) st)
-        ≡ run (does m counts) n (standing (Restart (searchAt m)) (Restart (countAt m)) (placed a m (i + 1) true) st)
+        → run (does m counts) limitOf (suc g + n) (standing last l (placed a m j passed) st)
+        ≡ run (does m counts) limitOf n (standing (Restart (searchAt m)) (Restart (countAt m)) (placed a m (i + 1) true) st)
     unfolding pick
     search-loop zero j e passed last l got n =
         let here : j ≡ i = omega arith in
         rw (suc-add zero n, zero-add n)
-        (run-goes (does m counts) n _ _ (step-search true j passed last l got (omega arith) (rw here (eq-eqb r _ (sym (sought .this))))) ∙ rw here refl)
+        (run-goes (does m counts) limitOf n _ _ (step-search true j passed last l got (omega arith) (rw here (eq-eqb r _ (sym (sought .this))))) ∙ rw here refl)
     search-loop (suc g) j e passed last l got n =
         rw (suc-add (suc g) n)
-        (run-goes (does m counts) (suc g + n) _ _ (step-search false j passed last l got (omega arith) (ne-eqb r _ (λ q. sought .others j (omega arith) (sym q))))
+        (run-goes (does m counts) limitOf (suc g + n) _ _ (step-search false j passed last l got (omega arith) (ne-eqb r _ (λ q. sought .others j (omega arith) (sym q))))
         ∙ search-loop g (j + 1) (omega arith) true (Restart (searchAt m)) (Restart (searchAt m + 8)) (got-again m counts (Restart (searchAt m))) n)
 
     -- ---- up to the last TIC
 
     to-count : ((b : ℕ) → m ≡ Set b → settable b ≡ true) → sector < 128 → (n : ℕ)
-        → run (does m counts) (controls m + (suc i + n)) (start (Restart 0) st)
-        ≡ run (does m counts) n (standing (Restart (searchAt m)) (Restart (countAt m)) (placed a m (i + 1) true) st)
+        → run (does m counts) limitOf (controls m + (suc i + n)) (start (Restart 0) st)
+        ≡ run (does m counts) limitOf n (standing (Restart (searchAt m)) (Restart (countAt m)) (placed a m (i + 1) true) st)
     unfolding isTic
     to-count may low n =
         to-search m counts may (sought .on-pack) low (suc i + n)
@@ -228,15 +228,15 @@ module _ (fs : List Fault) (w : Setting) (a : Address) (sector r to : ℕ) (st :
       (Commands.carry-count w a sector r to m true (countAt m) st m t (i + 1) true fs (sought .there) (ahead-inside t (i + 1) (omega (arith, sought .inside, sought .not-zero))))
 
   pub to-last : (m : FileMask) (counts : Bool) (t : Track) (i : ℕ) → Sought w a r t i → ((b : ℕ) → m ≡ Set b → settable b ≡ true) → sector < 128 → (n : ℕ)
-      → run (does m counts) (commands m counts i + n) (start (Restart 0) st) ≡ run (does m counts) n (reached a m counts t i st)
+      → run (does m counts) limitOf (commands m counts i + n) (start (Restart 0) st) ≡ run (does m counts) limitOf n (reached a m counts t i st)
   to-last m counts t i sought may low n =
       let e : controls m + (suc i + readCounts counts) + n ≡ controls m + (suc i + (readCounts counts + n)) = omega arith in
       rw e (to-count m counts t i sought may low (readCounts counts + n) ∙ by counts)
     where
-      by : (counts : Bool) → run (does m counts) (readCounts counts + n) (standing (Restart (searchAt m)) (Restart (countAt m)) (placed a m (i + 1) true) st)
-          ≡ run (does m counts) n (reached a m counts t i st)
+      by : (counts : Bool) → run (does m counts) limitOf (readCounts counts + n) (standing (Restart (searchAt m)) (Restart (countAt m)) (placed a m (i + 1) true) st)
+          ≡ run (does m counts) limitOf n (reached a m counts t i st)
       by false = rw (zero-add n) refl
-      by true = rw (suc-add 0 n, zero-add n) (run-goes (does m true) n _ _ (step-count m t i sought))
+      by true = rw (suc-add 0 n, zero-add n) (run-goes (does m true) limitOf n _ _ (step-count m t i sought))
 
 -- ---- the last TIC, and the user's command behind it
 
@@ -265,8 +265,8 @@ module _ (w : Setting) (a : Address) (sector r to : ℕ) (st : List ℕ) (m : Fi
   pub resumes : (fs : List Fault) → Sought w a r t i → Faultless w a m counts i to x st s
       → (local : (d : Drive) → execute (restarted w a m sector r counts to) (Chain to) x d st ≡ execute w (Chain to) x d st)
       → ((b : ℕ) → m ≡ Set b → settable b ≡ true) → sector < 128 → (n : ℕ)
-      → (run (step fs (restarted w a m sector r counts to)) (commands m counts i + suc n) (start (Restart 0) st)
-      ≡ run (step fs (restarted w a m sector r counts to)) (suc n) (reached a m counts t i st))
+      → (run (step fs (restarted w a m sector r counts to)) limitOf (commands m counts i + suc n) (start (Restart 0) st)
+      ≡ run (step fs (restarted w a m sector r counts to)) limitOf (suc n) (reached a m counts t i st))
       × (step fs (restarted w a m sector r counts to) (reached a m counts t i st) ≡ step fs w s)
   unfolding Step.step
   resumes fs sought faultless local may low n =

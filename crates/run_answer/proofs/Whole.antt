@@ -12,21 +12,18 @@ use borrow.Rule.Slice.PartMut.{midOf, putMid}
 use Rattle.base.specs.Choice.{opt}
 use Rattle.base.specs.Bytes.{two, three}
 use Rattle.copy.proofs.Lists.{put-home}
-use Rattle.channel.specs.declared.Csw.{Csw}
-use Rattle.channel.specs.Csw.{cswAt}
 use Rattle.channel.specs.Ccw.{addressOf}
 use Rattle.drive.specs.declared.FileMask.{FileMask}
 use Rattle.drive.specs.declared.FileMask.the-variants.{Unset, Set}
 use Rattle.drive.specs.Drive.{addressBytes}
 use Rattle.drive.specs.Step as Step
-use Rattle.drive.specs.Run.{limitCsw}
 use Rattle.command.specs.declared.Check.the-variants.{Rejected, NotFound, Protected}
 use Rattle.command.specs.declared.Status.{Status}
 use Rattle.command.specs.declared.Status.the-variants.{Quiet, Refused}
-use Rattle.command.specs.declared.State.{State}
 use Rattle.command.specs.declared.End.{End}
 use Rattle.command.specs.declared.Cut.{Cut}
 use Rattle.command.specs.Answer.{senseOf, cutOf}
+use Rattle.trial.specs.declared.Limit.{Limit}
 use Rattle.trial.specs.declared.Ran.the-variants as Ran
 use Rattle.trial.specs.Trial.{shownOf}
 use Rattle.channel.specs.Csw.{cswBytes}
@@ -94,7 +91,6 @@ pub cut-so : (k : Cut) (after : List ℕ) → after ≡ cswBytes (k .csw) ++ Ste
 unfolding answerBytes shownOf opt Step.cutSense
 cut-so k after q st = q
 
-pub limit-so : (s : State) (w : Csw) (after : List ℕ) → w ≡ cswAt (s .last) 0x0c 0 (s .left)
-    → after ≡ cswBytes w ++ Step.noSense ++ (maskBytes (s .drive .mask) ++ two 0) → Writes (Ran.Limited s) after
-unfolding answerBytes shownOf opt limitCsw
-limit-so s w after e q st = q ∙ ap (λ (v : Csw). cswBytes v ++ Step.noSense ++ (maskBytes (s .drive .mask) ++ two 0)) e
+pub limit-so : (m : Limit) (after : List ℕ) → after ≡ cswBytes (m .csw) ++ Step.noSense ++ (maskBytes (m .mask) ++ two 0) → Writes (Ran.Limited m) after
+unfolding answerBytes shownOf opt
+limit-so m after q st = q

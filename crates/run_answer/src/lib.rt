@@ -3,7 +3,6 @@ use channel::Csw;
 use command::Cut;
 use command::Status;
 use drive::FileMask;
-use position::Drive;
 use trial::Ran;
 ghost use mathlib.Core.Path.{_≡_};
 ghost use mathlib.Core.List.{[], _++_};
@@ -68,16 +67,9 @@ pub fn put(answer: &mut [u8], r: Ran)
         Ran::Cut(k) => {
             put_cut(answer, k);
         }
-        Ran::Limited(s) => {
-            let last = s.last;
-            let d: Drive = s.drive;
-            let mask = d.mask;
-            put_end(
-                answer,
-                location::csw_at(last, channel::END_STATUS, 0, s.left),
-                Status::Quiet,
-                mask,
-            );
+        Ran::Limited(m) => {
+            let mask = m.mask;
+            put_end(answer, m.csw, Status::Quiet, mask);
         }
     }
 }

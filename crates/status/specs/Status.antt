@@ -10,6 +10,6 @@ use Rattle.channel.specs.declared.Csw.{Csw}
 unfoldable pub cswText : Csw → List ℕ
 cswText w = number 16 6 (w .address) ++ number 16 2 (w .unit) ++ number 16 2 (w .channel) ++ number 16 4 (w .count) ++ ascii "\n"
 
--- "refused and its number"
+-- "'refused' and its number"
 unfoldable pub refusedText : Question → List ℕ
 refusedText q = ascii "refused" ++ number 10 1 (numberOf q)

@@ -20,7 +20,7 @@ use Rattle.channel.specs.Ccw.{Lent, isTic, fetch}
 use Rattle.drive.specs.declared.FileMask.the-variants.{Unset}
 use Rattle.drive.specs.Drive as Abstract
 use Rattle.drive.specs.Step as Step
-use Rattle.drive.specs.Run.{start, ticFirst, runFrom}
+use Rattle.drive.specs.Run.{Limit, limitOf, start, ticFirst, runFrom}
 use Rattle.position.specs.declared.Drive.{Drive}
 use Rattle.position.specs.Standing.{driveOf}
 use Rattle.command.specs.declared.State.{State}
@@ -38,8 +38,8 @@ use Rattle.trial.specs.Run.{RunsOn, Runs}
 
 module _ (chain arguments program restartArguments image faults : List ℕ) where
   -- what n commands from a state and storage on come to
-  abbrev rest : List Fault → ℕ → State → List ℕ → Result Step.State Step.End Step.Cut
-  rest fs n s st = run (Step.step fs (settingWith (lentOf chain arguments program restartArguments) image)) n (stateOf s st)
+  abbrev rest : List Fault → ℕ → State → List ℕ → Result Limit Step.End Step.Cut
+  rest fs n s st = run (Step.step fs (settingWith (lentOf chain arguments program restartArguments) image)) limitOf n (stateOf s st)
 
   abbrev pub Alike : ℕ → State → List ℕ → ℕ → State → List ℕ → Type 0
   Alike n s st m t u = (fs : List Fault) → faultsAt faults 0 ≡ some fs → rest fs n s st ≡ rest fs m t u
@@ -48,18 +48,20 @@ module _ (chain arguments program restartArguments image faults : List ℕ) wher
     pub goes-on : (t : State) (after : List ℕ) → 0 < n → Steps chain arguments program restartArguments image faults s st (Goes t) after
         → Alike (n - 1) t after m s₀ st₀
     goes-on t after h e fs l =
-        sym (run-again (Step.step fs (settingWith (lentOf chain arguments program restartArguments) image)) n (stateOf s st) (stateOf t after) h (e fs l)) ∙ same fs l
+        sym (run-again (Step.step fs (settingWith (lentOf chain arguments program restartArguments) image)) limitOf n (stateOf s st) (stateOf t after) h (e fs l)) ∙ same fs l
 
     pub ends-so : (k : End) (after : List ℕ) → 0 < n → Steps chain arguments program restartArguments image faults s st (Ends k) after
         → RunsOn chain arguments program restartArguments image faults m s₀ st₀ (Ran.Ended k) after
-    ends-so k after h e fs l = sym (same fs l) ∙ run-ended (Step.step fs (settingWith (lentOf chain arguments program restartArguments) image)) n (stateOf s st) _ h (e fs l)
+    ends-so k after h e fs l = sym (same fs l) ∙ run-ended (Step.step fs (settingWith (lentOf chain arguments program restartArguments) image)) limitOf n (stateOf s st) _ h (e fs l)
 
     pub cut-so : (k : Cut) (after : List ℕ) → 0 < n → Steps chain arguments program restartArguments image faults s st (Cuts k) after
         → RunsOn chain arguments program restartArguments image faults m s₀ st₀ (Ran.Cut k) after
-    cut-so k after h e fs l = sym (same fs l) ∙ run-cut-off (Step.step fs (settingWith (lentOf chain arguments program restartArguments) image)) n (stateOf s st) _ h (e fs l)
+    cut-so k after h e fs l = sym (same fs l) ∙ run-cut-off (Step.step fs (settingWith (lentOf chain arguments program restartArguments) image)) limitOf n (stateOf s st) _ h (e fs l)
 
-    pub out : n ≤ 0 → RunsOn chain arguments program restartArguments image faults m s₀ st₀ (Ran.Limited s) st
-    out h fs l = sym (same fs l) ∙ run-none (Step.step fs (settingWith (lentOf chain arguments program restartArguments) image)) n (stateOf s st) h
+    pub out : n ≤ 0 → (c : Csw) → c ≡ cswAt (s .last) 0x0c 0 (s .left)
+        → RunsOn chain arguments program restartArguments image faults m s₀ st₀ (Ran.Limited (record { csw = c; mask = s .drive .mask })) st
+    unfolding limitOf
+    out h c e fs l = rw e (sym (same fs l) ∙ run-none (Step.step fs (settingWith (lentOf chain arguments program restartArguments) image)) limitOf n (stateOf s st) h)
 
 -- ---- the first CCW
 

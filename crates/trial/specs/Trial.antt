@@ -18,8 +18,8 @@ use Rattle.channel.specs.declared.Location.the-variants.{Chain, Restart}
 use Rattle.channel.specs.declared.Csw.{Csw}
 use Rattle.channel.specs.Ccw.{Lent, addressOf}
 use Rattle.drive.specs.declared.FileMask.{FileMask}
-use Rattle.drive.specs.Step.{State, End, Cut, noSense, cutSense}
-use Rattle.drive.specs.Run.{runFrom, limitCsw}
+use Rattle.drive.specs.Step.{End, Cut, noSense, cutSense}
+use Rattle.drive.specs.Run.{Limit, runFrom}
 use Rattle.command.specs.Answer.{settingWith, lentOf}
 use Rattle.trial.specs.declared.Trial.{Trial}
 use Rattle.trial.specs.declared.Trial.the-variants as Trial
@@ -35,24 +35,24 @@ pub record Shown : Type 0 where
   pub mask : FileMask
   pub first : Option ℕ
 
--- "answers limit with its last CSW"
-unfoldable pub shownOf : Result State End Cut → Shown
+-- "answers 'limit' with its last CSW"
+unfoldable pub shownOf : Result Limit End Cut → Shown
 shownOf (ended e) = record { limited = false; csw = e .csw; sense = e .sense; mask = e .mask; first = none }
 shownOf (cut k) = record { limited = false; csw = k .csw; sense = cutSense k; mask = k .mask; first = some (addressOf (k .first)) }
-shownOf (limit s) = record { limited = true; csw = limitCsw s; sense = noSense; mask = s .drive .mask; first = none }
+shownOf (limit m) = record { limited = true; csw = m .csw; sense = noSense; mask = m .mask; first = none }
 
 -- storage as the run leaves it
-unfoldable pub storageOf : Result State End Cut → List ℕ
+unfoldable pub storageOf : Result Limit End Cut → List ℕ
 storageOf (ended e) = e .storage
 storageOf (cut k) = k .storage
-storageOf (limit s) = s .storage
+storageOf (limit m) = m .storage
 
 -- ---- the calls
 
 -- a refusal, or all that the run comes to
 pub data Called : Type 0 where
   refused : Question → Called
-  answered : Result State End Cut → Called
+  answered : Result Limit End Cut → Called
 
 -- What a call answers, and storage behind it.
 pub record Conclusion : Type 0 where
@@ -64,7 +64,7 @@ unfoldable pub refusal : List ℕ → Question → Conclusion
 refusal st q = record { answer = refused q; storage = st }
 
 -- what a run comes to, and storage as it leaves it
-unfoldable pub concluded : Result State End Cut → Conclusion
+unfoldable pub concluded : Result Limit End Cut → Conclusion
 concluded r = record { answer = answered r; storage = storageOf r }
 
 -- "2. Is the image well formed? 3. Is each fault well formed and its record in the image?" Then the run, with the faults of the list.

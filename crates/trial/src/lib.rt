@@ -1,5 +1,6 @@
 // The run of a chain over an image with a fault list.
 use address::LAST_CYLINDER;
+use channel::Csw;
 use channel::Location;
 use channel::Slot;
 use command::Answer;
@@ -20,11 +21,17 @@ ghost use Rattle.read_command.specs.Reads.{Begun};
 ghost use Rattle.trial.specs.Run.{TicsFirst, RunsOn, Runs, RanLow};
 ghost use Rattle.trial.specs.Trial.{runCall, restartCall, conclusionOf, TrialLow};
 
-// What a run comes to: an end, a cut by a faulted data area, or "limit" with the state behind its last command.
+// What "limit" shows: the last CSW and the file mask.
+pub struct Limit {
+    pub csw: Csw,
+    pub mask: FileMask,
+}
+
+// What a run comes to: an end, a cut by a faulted data area, or "limit".
 pub enum Ran {
     Ended(End),
     Cut(Cut),
-    Limited(State),
+    Limited(Limit),
 }
 
 // What a call comes to: a refusal, or the run.
@@ -92,7 +99,13 @@ fn run_on(
             }
         }
     }
-    Ran::Limited(here)
+    let last = here.last;
+    let d = here.drive;
+    let mask = d.mask;
+    Ran::Limited(Limit {
+        csw: location::csw_at(last, channel::END_STATUS, 0, here.left),
+        mask: mask,
+    })
 }
 
 // A run from a CCW of the chain or of the restart program.

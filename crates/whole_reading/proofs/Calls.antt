@@ -24,6 +24,7 @@ use Rattle.faults.specs.Faults.{Fault, faultsAt, soundFaults, soundFrom}
 use Rattle.abstract_machine.specs.Machine.{Result}
 use Rattle.channel.specs.declared.Location.the-variants.{Chain}
 use Rattle.drive.specs.Step as Step
+use Rattle.drive.specs.Run.{Limit}
 use Rattle.command.specs.Answer.{settingWith, lentOf}
 use Rattle.trial.specs.declared.Ran.{Ran}
 use Rattle.trial.specs.Run.{Runs}
@@ -34,7 +35,7 @@ use Rattle.reading_cut.specs.Cut.{Areas, lentAreas, toldOf}
 use Rattle.reading_runs.specs.declared.Over.{Over}
 use Rattle.reading_runs.specs.declared.Outcome.the-variants as Outcome
 use Rattle.reading_runs.specs.Conclusion.{Conclusion, leaving, concluded}
-use Rattle.whole_reading.specs.Reading.{readingAreas, readingCall}
+use Rattle.whole_reading.specs.Reading.{readingAreas, readingCall, Answers}
 use Rattle.reading_runs.specs.On.{noLog, readOn, ReadsOn}
 
 -- ---- question 1
@@ -95,18 +96,19 @@ module _ (chain arguments storage image faults extent limit program restartArgum
 -- ---- the questions in order
 
 module _ (chain arguments st image faults extent : List ℕ) (n : ℕ) (p a l : List ℕ) where
-  abbrev Answers : Conclusion → Type 0
-  Answers c = c ≡ readingCall chain arguments st image faults extent n p a l
+  -- what the contract says of a conclusion
+  abbrev Comes : Conclusion → Type 0
+  Comes c = Answers chain arguments st image faults extent n p a l c
 
   abbrev areas : Bool
   areas = readingAreas (length chain) (length arguments) (length st) (length image) (length faults) (length extent) n (length p) (length a) (length l)
 
-  pub wrong-areas : areas ≡ false → Answers (leaving (Outcome.Refused Question.Areas) st p a l)
+  pub wrong-areas : areas ≡ false → Comes (leaving (Outcome.Refused Question.Areas) st p a l)
   unfolding readingCall
   wrong-areas h = sym (pick-false _ _ h)
 
   module _ (h : areas ≡ true) where
-    pub ill-image : wellFormed lastCylinder image ≡ false → Answers (leaving (Outcome.Refused Question.Image) st p a l)
+    pub ill-image : wellFormed lastCylinder image ≡ false → Comes (leaving (Outcome.Refused Question.Image) st p a l)
     unfolding readingCall
     ill-image w = sym (pick-true _ _ h ∙ pick-false _ _ w)
 
@@ -117,26 +119,26 @@ module _ (chain arguments st image faults extent : List ℕ) (n : ℕ) (p a l : 
           pick (soundExtent lastCylinder (extentOf extent))
           (concluded (wholeReading fs (settingWith (lentOf chain arguments [] []) image) rows (extentOf extent) n st) p a l) (leaving (Outcome.Refused Question.Extent) st p a l)
 
-      pub ill-faults : soundFrom (packOf image) faults 0 ≡ false → Answers (leaving (Outcome.Refused Question.Faults) st p a l)
+      pub ill-faults : soundFrom (packOf image) faults 0 ≡ false → Comes (leaving (Outcome.Refused Question.Faults) st p a l)
       unfolding readingCall soundFrom
       ill-faults g =
           kept-out (faultsAt faults 0) (soundFaults (packOf image)) (leaving (Outcome.Refused Question.Faults) st p a l) with-faults g
           ∙ sym (pick-true _ _ h ∙ pick-true _ _ w)
 
       module _ (fs : List Fault) (e : faultsAt faults 0 ≡ some fs) (q : soundFaults (packOf image) fs ≡ true) (x : Extent) (i : x ≡ extentOf extent) where
-        after-faults : (c : Conclusion) → c ≡ with-faults fs → Answers c
+        after-faults : (c : Conclusion) → c ≡ with-faults fs → Comes c
         unfolding readingCall opt
         after-faults c k = k ∙ sym (pick-true _ _ h ∙ pick-true _ _ w ∙ rw e (pick-true _ _ q))
 
-        pub off-pack : soundExtent lastCylinder x ≡ false → Answers (leaving (Outcome.Refused Question.Extent) st p a l)
+        pub off-pack : soundExtent lastCylinder x ≡ false → Comes (leaving (Outcome.Refused Question.Extent) st p a l)
         off-pack g = after-faults _ (sym (pick-false _ _ (ap (soundExtent lastCylinder) (sym i) ∙ g)))
 
         pub read-so : soundExtent lastCylinder x ≡ true → (first : Ran) (after : List ℕ) → Runs chain arguments [] [] image faults n (Chain 0) st first after
             → (o : Over) (y : Areas) → ReadsOn chain arguments image faults x n first (lentAreas after p a l) o y
-            → Answers (leaving (Outcome.Over o) (y .storage) (y .program) (y .restartArguments) (y .list))
+            → Comes (leaving (Outcome.Over o) (y .storage) (y .program) (y .restartArguments) (y .list))
         unfolding wholeReading
         read-so g first after runs o y reads =
             after-faults _
-            (reads fs e ∙ ap (λ (r : Result Step.State Step.End Step.Cut). concluded (readOn fs (toldOf chain arguments image) x n noLog r) p a l) (sym (runs fs e))
+            (reads fs e ∙ ap (λ (r : Result Limit Step.End Step.Cut). concluded (readOn fs (toldOf chain arguments image) x n noLog r) p a l) (sym (runs fs e))
             ∙ ap (λ (z : Extent). concluded (wholeReading fs (toldOf chain arguments image) rows z n st) p a l) i
             ∙ sym (pick-true _ _ (ap (soundExtent lastCylinder) (sym i) ∙ g)))

@@ -1,5 +1,6 @@
 -- The whole reading as a call: the questions that it asks first, then what it comes to (document 01, "Bounds of the work").
 use Prim.Native.Nat.{ℕ, _*_}
+use mathlib.Core.Path.{_≡_}
 use mathlib.Core.Bool.{Bool, _&&_}
 use mathlib.Core.List.{List, []}
 use lib.Dec.{eqb, leb}
@@ -37,3 +38,7 @@ readingCall chain arguments st image faults extent n p a l =
     (leaving (Refused Question.Faults) st p a l)))
     (leaving (Refused Question.Image) st p a l))
     (leaving (Refused Question.Areas) st p a l)
+
+-- The contract of the call: with these areas and this limit it comes to c, its answer and what it leaves in the areas that it may write.
+abbrev pub Answers : (chain arguments st image faults extent : List ℕ) → ℕ → (p a l : List ℕ) → Conclusion → Type 0
+Answers chain arguments st image faults extent n p a l c = c ≡ readingCall chain arguments st image faults extent n p a l

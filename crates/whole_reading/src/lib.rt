@@ -5,7 +5,7 @@ use questions::Question;
 use reading_runs::Outcome;
 ghost use mathlib.Core.Path.{_≡_};
 ghost use Rattle.reading_runs.specs.Conclusion.{leaving, MadeWithin, OutcomeLow};
-ghost use Rattle.whole_reading.specs.Reading.{readingAreas, readingCall};
+ghost use Rattle.whole_reading.specs.Reading.{readingAreas, Answers};
 
 // Question 1, from the lengths of the areas and the command limit.
 fn areas_fit(
@@ -49,8 +49,8 @@ pub fn read(
 ) -> Outcome
     ensures { λ r.
         let after = leaving r (now (storage .exit)) (now (program .exit)) (now («restart_arguments» .exit)) (now (list .exit)) in
-        ⌜ after ≡ readingCall (now (chain .entry)) (now (arguments .entry)) (now (storage .entry)) (now (image .entry)) (now (faults .entry))
-        (now (extent .entry)) limit (now (program .entry)) (now («restart_arguments» .entry)) (now (list .entry)) ⌝ }
+        ⌜ Answers (now (chain .entry)) (now (arguments .entry)) (now (storage .entry)) (now (image .entry)) (now (faults .entry))
+        (now (extent .entry)) limit (now (program .entry)) (now («restart_arguments» .entry)) (now (list .entry)) after ⌝ }
     ensures made { λ r. ⌜ MadeWithin limit r ⌝ }
     ensures low { λ r. ⌜ OutcomeLow r ⌝ }
 {

@@ -56,9 +56,6 @@ returns c =
 enum-known-ran-2 : tie.Need-enum-known-ran-2 Inv-loop μ-loop
 enum-known-ran-2 c = search needs
 
-csw-at-requires : tie.Need-csw-at-requires Inv-loop μ-loop
-csw-at-requires c κs = let low = rw (c .before .ran2 .given .1) at (c .before .before .before .loop .inv .5) in (low .last-low, low .left-low)
-
 same-length-5 : tie.Need-same-length-5 Inv-loop μ-loop
 same-length-5 c = search needs
 
@@ -77,7 +74,7 @@ returns-2 c =
     let start = at-loop .before .before .before .before .before .before .before .before .before in
     let a = start .args in
     let at = at-loop .loop in
-    (on-limited (a .chain .now) (a .arguments .now) (a .image .now) (a .faults .now) (a .x) (a .limit) (a .first) (lentAreas (a .storage .now) (a .program .now) (a .restart-arguments .now) (a .list .now)) _ _ (c .before .before .ran2 .given .0 .0) (c .csw-at .result) (rw (c .before .before .ran2 .given .1) at (at .inv .6)) (c .csw-at .ensures .0), (at .inv .0, record { csw-low = c .csw-at .ensures .1; made-low = omega (arith, at .inv .0, start .pre .1 .1 .1 .0) }))
+    (on-limited (a .chain .now) (a .arguments .now) (a .image .now) (a .faults .now) (a .x) (a .limit) (a .first) (lentAreas (a .storage .now) (a .program .now) (a .restart-arguments .now) (a .list .now)) _ _ (c .before .before .ran2 .given .0 .0) (rw (c .before .before .ran2 .given .1) at (at .inv .6)), (at .inv .0, record { csw-low = rw (c .before .before .ran2 .given .1) at (at .inv .5); made-low = omega (arith, at .inv .0, start .pre .1 .1 .1 .0) }))
 
 enum-known-ran-3 : tie.Need-enum-known-ran-3 Inv-loop μ-loop
 enum-known-ran-3 c = search needs
@@ -158,8 +155,8 @@ loop-again c =
 enum-known-w : tie.Need-enum-known-w Inv-loop μ-loop
 enum-known-w c = search needs
 
-add-t37 : tie.Need-add-t37 Inv-loop μ-loop
-add-t37 c =
+add-t36 : tie.Need-add-t36 Inv-loop μ-loop
+add-t36 c =
     let at-loop = c .before .before .before .before .before .before .before .before .before .before .before .before .before .before .before .before .before .before .before .before .before in
     let start = at-loop .before .before .before .before .before .before .before .before .before in
     omega (arith, at-loop .loop .inv .0, start .pre .1 .1 .1 .0)
@@ -186,7 +183,7 @@ returns-4 c =
     let a = start .args in
     let at = at-loop .loop in
     let cut = rw (at-ran3 .ran3 .given .1) at (at .inv .6) in
-    (on-closed (a .chain .now) (a .arguments .now) (a .image .now) (a .faults .now) (a .x) (a .limit) (a .first) (lentAreas (a .storage .now) (a .program .now) (a .restart-arguments .now) (a .list .now)) _ _ (at-ran3 .ran3 .given .0 .0) cut (at .inv .0) (at-if1 .if1 .left) _ _ (rw (c .before .w2 .given .1) at (at-after-cut .after-cut .ensures .0)), (omega (arith, at .inv .0, at-if1 .if1 .left), record { csw-low = rw (c .before .w2 .given .1) at (at-after-cut .after-cut .ensures .1); made-low = omega (arith, at .inv .0, start .pre .1 .1 .1 .0) }))
+    (on-closed (a .chain .now) (a .arguments .now) (a .image .now) (a .faults .now) (a .x) (a .limit) (a .first) (lentAreas (a .storage .now) (a .program .now) (a .restart-arguments .now) (a .list .now)) _ _ (at-ran3 .ran3 .given .0 .0) cut (at .inv .0) (at-if1 .if1 .left) _ _ (rw (c .before .w3 .given .1) at (at-after-cut .after-cut .ensures .0)), (omega (arith, at .inv .0, at-if1 .if1 .left), record { csw-low = rw (c .before .w3 .given .1) at (at-after-cut .after-cut .ensures .1); made-low = omega (arith, at .inv .0, start .pre .1 .1 .1 .0) }))
 
 enum-known-n : tie.Need-enum-known-n Inv-loop μ-loop
 enum-known-n c = search needs
@@ -230,7 +227,6 @@ read-on-spec =
     same-length-4
     returns
     enum-known-ran-2
-    csw-at-requires
     same-length-5
     same-length-6
     same-length-7
@@ -248,7 +244,7 @@ read-on-spec =
     loop-less
     loop-again
     enum-known-w
-    add-t37
+    add-t36
     same-length-13
     same-length-14
     same-length-15

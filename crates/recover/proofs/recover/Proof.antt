@@ -19,18 +19,20 @@ returns c = let a = c .before .before .before .before .before .before .before .b
 read-requires : tie.Need-read-requires
 read-requires c κs = search needs
 
-enum-known-r : tie.Need-enum-known-r
-enum-known-r c = search needs
+enum-known-w : tie.Need-enum-known-w
+enum-known-w c = search needs
 
-enum-told : tie.Need-enum-told
-enum-told c = search needs
+enum-known-q : tie.Need-enum-known-q
+enum-known-q c = search needs
 
 returns-2 : tie.Need-returns-2
 returns-2 c =
-    let at-if1 = c .before .before .before in
+    let at-q = c .before in
+    let at-read = at-q .before .before in
+    let at-if1 = at-read .before in
     let at-areas-fit = at-if1 .before in
     let start = at-areas-fit .before .before .before .before .before .before .before in
-    let a = start .args in (ill-formed (a .chain .now) (a .report .now) (a .extent .now) (a .storage .now) (a .program .now) (a .restart-arguments .now) (sym (at-areas-fit .areas-fit .ensures) ∙ not-false _ (at-if1 .if1 .left)) _ (c .before .before .read .ensures .0) (c .enum-told .given .1), tt)
+    let a = start .args in (ill-formed (a .chain .now) (a .report .now) (a .extent .now) (a .storage .now) (a .program .now) (a .restart-arguments .now) (sym (at-areas-fit .areas-fit .ensures) ∙ not-false _ (at-if1 .if1 .left)) _ (at-q .q .given .0 .0) (at-read .read .ensures .0) (at-read .read .ensures .1) (at-q .q .given .1), tt)
 
 extent-of-requires : tie.Need-extent-of-requires
 extent-of-requires c κs =
@@ -43,19 +45,19 @@ on-pack-requires c κs = search needs
 
 returns-3 : tie.Need-returns-3
 returns-3 c =
-    let at-r = c .before .before .before .before in
-    let at-read = at-r .before .before in
+    let at-w = c .before .before .before .before in
+    let at-read = at-w .before .before in
     let at-if1 = at-read .before in
     let at-areas-fit = at-if1 .before in
     let start = at-areas-fit .before .before .before .before .before .before .before in
     let a = start .args in
-    (off-pack (a .chain .now) (a .report .now) (a .extent .now) (a .storage .now) (a .program .now) (a .restart-arguments .now) (sym (at-areas-fit .areas-fit .ensures) ∙ not-false _ (at-if1 .if1 .left)) _ _ (at-read .read .ensures .0) (at-r .r .given .1) _ (c .before .before .extent-of .ensures) (sym (c .before .on-pack .ensures) ∙ not-true _ (c .if2 .taken)), tt)
+    (off-pack (a .chain .now) (a .report .now) (a .extent .now) (a .storage .now) (a .program .now) (a .restart-arguments .now) (sym (at-areas-fit .areas-fit .ensures) ∙ not-false _ (at-if1 .if1 .left)) _ _ (at-read .read .ensures .0) (at-w .w .given .1) _ (c .before .before .extent-of .ensures) (sym (c .before .on-pack .ensures) ∙ not-true _ (c .if2 .taken)), tt)
 
 user-of-requires : tie.Need-user-of-requires
 user-of-requires c κs =
-    let at-r = c .before .before .before .before .before in
-    let at-read = at-r .before .before in
-    (rw (at-r .r .given .1) at (at-read .read .ensures .1)) .seek
+    let at-w = c .before .before .before .before .before in
+    let at-read = at-w .before .before in
+    (rw (at-w .w .given .1) at (at-read .read .ensures .1)) .seek
 
 sub-recover-from : tie.Need-sub-recover-from
 sub-recover-from c = search needs
@@ -65,22 +67,22 @@ part-recover-from-start c = search needs
 
 part-recover-from-end : tie.Need-part-recover-from-end
 part-recover-from-end c =
-    let at-r = c .before .before .before .before .before .before .before .before .before in
-    let at-read = at-r .before .before in
-    let n = (rw (at-r .r .given .1) at (at-read .read .ensures .1)) .long in omega arith
+    let at-w = c .before .before .before .before .before .before .before .before .before in
+    let at-read = at-w .before .before in
+    let n = (rw (at-w .w .given .1) at (at-read .read .ensures .1)) .long in omega arith
 
 recover-from-requires : tie.Need-recover-from-requires
 unfolding part
 recover-from-requires c κs =
     let at-user-of = c .before .before .before .before in
-    let at-r = at-user-of .before .before .before .before .before .before in
-    let at-read = at-r .before .before in
+    let at-w = at-user-of .before .before .before .before .before .before in
+    let at-read = at-w .before .before in
     let at-if1 = at-read .before in
     let at-areas-fit = at-if1 .before in
     let start = at-areas-fit .before .before .before .before .before .before .before in
     let a = start .args in
     let fit = areas-say _ _ _ _ _ (sym (at-areas-fit .areas-fit .ensures) ∙ not-false _ (at-if1 .if1 .left)) in
-    let bounds = rw (at-r .r .given .1) at (at-read .read .ensures .1) in
+    let bounds = rw (at-w .w .given .1) at (at-read .read .ensures .1) in
     record {
       lent = record { chain-short = fit .chain-short; sense-full = length-part (a .report .now) 3 27 (omega (arith, bounds .long)); program-full = fit .program-full; restart-arguments-full = fit .restart-arguments-full };
       csw-low = bounds .address;
@@ -104,16 +106,16 @@ returns-4 c =
     let at-if2 = at-user-of .before .before in
     let at-on-pack = at-if2 .before in
     let at-extent-of = at-on-pack .before in
-    let at-r = at-extent-of .before .before in
-    let at-read = at-r .before .before in
+    let at-w = at-extent-of .before .before in
+    let at-read = at-w .before .before in
     let at-if1 = at-read .before in
     let at-areas-fit = at-if1 .before in
     let start = at-areas-fit .before .before .before .before .before .before .before in
     let a = start .args in
-    let bounds = rw (at-r .r .given .1) at (at-read .read .ensures .1) in
+    let bounds = rw (at-w .w .given .1) at (at-read .read .ensures .1) in
     let user = at-user-of .user-of in
     let done = at-recover-from .recover-from in (
-      answers (a .chain .now) (a .report .now) (a .extent .now) (a .storage .now) (a .program .now) (a .restart-arguments .now) (sym (at-areas-fit .areas-fit .ensures) ∙ not-false _ (at-if1 .if1 .left)) _ _ (at-read .read .ensures .0) (at-r .r .given .1) _ (at-extent-of .extent-of .ensures) (user .result) _
+      answers (a .chain .now) (a .report .now) (a .extent .now) (a .storage .now) (a .program .now) (a .restart-arguments .now) (sym (at-areas-fit .areas-fit .ensures) ∙ not-false _ (at-if1 .if1 .left)) _ _ (at-read .read .ensures .0) (at-w .w .given .1) _ (at-extent-of .extent-of .ensures) (user .result) _
           (sym (at-on-pack .on-pack .ensures) ∙ not-false _ (at-if2 .if2 .left)) (user .ensures .0) (done .ensures),
       recovered-low _ _ _ _ _ _ (record { address = bounds .address; count = bounds .count }) (done .ensures _ (sym (user .ensures .0))),
     )
@@ -125,8 +127,8 @@ recover-spec =
     areas-fit-requires
     returns
     read-requires
-    enum-known-r
-    enum-told
+    enum-known-w
+    enum-known-q
     returns-2
     extent-of-requires
     on-pack-requires

@@ -1,6 +1,6 @@
 -- `report::read` meets its contract: each answer is a law of `reportFrom` at the fields that were found. Assumes nothing.
 use native.Mathlib.Omega.{arith}
-use mathlib.Core.Path.{sym, _∙_}
+use mathlib.Core.Path.{refl, sym, _∙_}
 use Rattle.report.proofs.Places.{found-tells}
 use Rattle.report.proofs.Front.{no-sense, no-csw, no-first, csw-wrong, plain, long}
 use borrow.Author.Needs.{needs}
@@ -17,7 +17,7 @@ enum-told : tie.Need-enum-told
 enum-told c = search needs
 
 returns : tie.Need-returns
-returns c = (no-sense _ (sym (c .before .before .sized-at .ensures) ∙ c .enum-told .given .1), tt)
+returns c = (no-sense _ (sym (c .before .before .sized-at .ensures) ∙ c .enum-told .given .1), refl)
 
 sized-at-requires-2 : tie.Need-sized-at-requires-2
 sized-at-requires-2 c κs = search needs
@@ -32,7 +32,7 @@ returns-2 : tie.Need-returns-2
 returns-2 c =
     let sense-field = c .before .before .before .before in
     let w0 = found-tells _ _ 0x10 24 (sym (sense-field .before .before .sized-at .ensures) ∙ sense-field .second .given .1) in
-    (no-csw _ w0 (sym (c .before .before .sized-at2 .ensures) ∙ c .enum-told2 .given .1), tt)
+    (no-csw _ w0 (sym (c .before .before .sized-at2 .ensures) ∙ c .enum-told2 .given .1), refl)
 
 sized-at-requires-3 : tie.Need-sized-at-requires-3
 sized-at-requires-3 c κs = search needs
@@ -49,7 +49,7 @@ returns-3 c =
     let sense-field = csw-field .before .before .before .before in
     let w0 = found-tells _ _ 0x10 24 (sym (sense-field .before .before .sized-at .ensures) ∙ sense-field .second .given .1) in
     let w1 = found-tells _ _ 0x11 8 (sym (csw-field .before .before .sized-at2 .ensures) ∙ csw-field .csw .given .1) in
-    (no-first _ w0 w1 (sym (c .before .before .sized-at3 .ensures) ∙ c .enum-told3 .given .1), tt)
+    (no-first _ w0 w1 (sym (c .before .before .sized-at3 .ensures) ∙ c .enum-told3 .given .1), refl)
 
 shared-slice-read-if1 : tie.Need-shared-slice-read-if1
 shared-slice-read-if1 c =
@@ -65,7 +65,7 @@ returns-4 c =
     let w0 = found-tells _ _ 0x10 24 (sym (sense-field .before .before .sized-at .ensures) ∙ sense-field .second .given .1) in
     let w1 = found-tells _ _ 0x11 8 (sym (csw-field .before .before .sized-at2 .ensures) ∙ csw-field .csw .given .1) in
     let w2 = found-tells _ _ 0x12 2 (sym (first-field .before .before .sized-at3 .ensures) ∙ first-field .first .given .1) in
-    (csw-wrong _ w0 w1 w2 (c .if1 .taken), tt)
+    (csw-wrong _ w0 w1 w2 (c .if1 .taken), refl)
 
 csw-in-requires : tie.Need-csw-in-requires
 csw-in-requires c κs =

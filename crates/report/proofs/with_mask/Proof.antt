@@ -1,6 +1,6 @@
 -- `report::with_mask` meets its contract: each answer is a law of `withMask`, by what the seek argument answers. Assumes nothing.
 use native.Mathlib.Omega.{arith}
-use mathlib.Core.Path.{sym, _∙_}
+use mathlib.Core.Path.{refl, sym, _∙_}
 use borrow.Author.Tests.{not-true, not-false}
 use Rattle.report.proofs.Places.{found-tells}
 use Rattle.report.proofs.Behind.{mask-missing, mask-wrong, mask-here}
@@ -37,7 +37,7 @@ settable-requires c κs = search needs
 returns-2 : tie.Need-returns-2
 returns-2 c =
     let whole = c .before .before .before .before in
-    (mask-wrong _ _ _ (found-tells _ _ 0x13 1 (sym (whole .before .before .sized-at .ensures) ∙ whole .start .given .1)) (sym (c .before .settable .ensures) ∙ not-true _ (c .if1 .taken)), tt)
+    (mask-wrong _ _ _ (found-tells _ _ 0x13 1 (sym (whole .before .before .sized-at .ensures) ∙ whole .start .given .1)) (sym (c .before .settable .ensures) ∙ not-true _ (c .if1 .taken)), refl)
 
 with-seek-requires-2 : tie.Need-with-seek-requires-2
 with-seek-requires-2 c κs = search needs

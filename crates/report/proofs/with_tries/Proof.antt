@@ -1,6 +1,6 @@
 -- `report::with_tries` meets its contract: each answer is a law of `withTries` at the tests that led there. Assumes nothing.
 use native.Mathlib.Omega.{arith}
-use mathlib.Core.Path.{sym, _∙_}
+use mathlib.Core.Path.{refl, sym, _∙_}
 use Rattle.report.proofs.Places.{found-tells}
 use Rattle.report.proofs.Behind.{tries-end, tries-missing, tries-more, tries-here, bounds-tried}
 use borrow.Author.Needs.{needs}
@@ -22,12 +22,12 @@ enum-told c = search needs
 returns-2 : tie.Need-returns-2
 returns-2 c =
     let call = c .before .before in
-    (tries-missing _ _ _ (call .before .if1 .left) (sym (call .sized-at .ensures) ∙ c .enum-told .given .1), tt)
+    (tries-missing _ _ _ (call .before .if1 .left) (sym (call .sized-at .ensures) ∙ c .enum-told .given .1), refl)
 
 returns-3 : tie.Need-returns-3
 returns-3 c =
     let whole = c .before .before in
-    (tries-more _ _ _ (found-tells _ _ 0x15 1 (sym (whole .before .before .sized-at .ensures) ∙ whole .start .given .1)) (c .if2 .taken), tt)
+    (tries-more _ _ _ (found-tells _ _ 0x15 1 (sym (whole .before .before .sized-at .ensures) ∙ whole .start .given .1)) (c .if2 .taken), refl)
 
 byte-requires : tie.Need-byte-requires
 byte-requires c κs =

@@ -19,14 +19,8 @@ put-cut-requires c κs = let pre = c .before .before .before .before .before .pr
 enum-known-r-3 : tie.Need-enum-known-r-3
 enum-known-r-3 c = search needs
 
-csw-at-requires : tie.Need-csw-at-requires
-csw-at-requires c κs =
-    let at-r3 = c .before .before .before in
-    let start = at-r3 .before .before .before in
-    let low = rw (at-r3 .r3 .given .1) at (start .pre .1) in (low .last-low, low .left-low)
-
 put-end-requires-2 : tie.Need-put-end-requires-2
-put-end-requires-2 c κs = search needs
+put-end-requires-2 c κs = let pre = c .before .before .before .before .before .pre in (pre .0, rw (c .before .before .r3 .given .1) at (pre .1))
 
 same-length : tie.Need-same-length
 same-length c = search needs
@@ -47,9 +41,8 @@ same-length-3 c = search needs
 
 returns-3 : tie.Need-returns-3
 returns-3 c =
-    let at-csw-at = c .before .before .before in
-    let at-r3 = at-csw-at .before .before .before .before in
-    rw (at-r3 .r3 .given .1) (limit-so (at-r3 .r3 .given .0 .0) _ _ (at-csw-at .csw-at .ensures .0) (c .before .before .put-end2 .ensures))
+    let at-r3 = c .before .before .before .before .before in
+    rw (at-r3 .r3 .given .1) (limit-so (at-r3 .r3 .given .0 .0) _ (c .before .before .put-end2 .ensures))
 
 pub put-spec : {M : Type 1} → statement M
 put-spec =
@@ -60,7 +53,6 @@ put-spec =
     enum-known-r-2
     put-cut-requires
     enum-known-r-3
-    csw-at-requires
     put-end-requires-2
     same-length
     returns

@@ -75,14 +75,18 @@ returns-2 c =
     let e = rw (c .before .k .given .1) at (call .step .ensures .0) in
     (cut-so _ _ _ _ _ _ _ s₀ _ _ (at .here) _ (at .inv .3) (c .before .k .given .0 .0) _ (call .before .before .loop-test .taken) e, rw (c .before .k .given .1) at (call .step .ensures .1))
 
+csw-at-requires : tie.Need-csw-at-requires Inv-loop μ-loop
+csw-at-requires c κs = let low = c .before .before .loop .inv .2 in (low .last-low, low .left-low)
+
 same-length-3 : tie.Need-same-length-3 Inv-loop μ-loop
 same-length-3 c = search needs
 
 returns-3 : tie.Need-returns-3 Inv-loop μ-loop
 returns-3 c =
-    let at = c .before .loop in
-    let s₀ = c .before .before .before .before .before .before .before .before .before .args .s in
-    (out _ _ _ _ _ _ _ s₀ _ _ (at .here) _ (at .inv .3) (c .loop-test .left), at .inv .2)
+    let at-test = c .before .before in
+    let at = at-test .before .loop in
+    let s₀ = at-test .before .before .before .before .before .before .before .before .before .args .s in
+    (out _ _ _ _ _ _ _ s₀ _ _ (at .here) _ (at .inv .3) (at-test .loop-test .left) _ (c .csw-at .ensures .0), c .csw-at .ensures .1)
 
 pub run-on-spec : {M : Type 1} → statement M
 run-on-spec =
@@ -102,5 +106,6 @@ run-on-spec =
     enum-known-k
     same-length-2
     returns-2
+    csw-at-requires
     same-length-3
     returns-3)

@@ -1,33 +1,22 @@
--- Document 01, "Proved cases (T1 to T12)": one table, and one proof over it.
---   Case, cases   what recovery is given, the action that the error table chooses, and the answer
---   AllHold       the definitions choose that action and give that answer, in each of them
---   cases-hold    each case of the table holds
+-- Document 01, "Proved cases (T1 to T12)", as one table.
 use Prim.Native.Nat.{ℕ}
-use mathlib.Core.Path.{_≡_, refl}
+use mathlib.Core.Path.{_≡_}
 use mathlib.Core.Bool.{false}
 use mathlib.Core.Option.{Option, none, some}
-use mathlib.Core.List.{List, [], _∷_, _++_, map}
+use mathlib.Core.List.{List, [], _∷_, _++_}
 use lib.ListN.{set, replicate}
-use Rattle.base.specs.Choice.{pick, opt}
-use Rattle.base.specs.Bytes.{part, two, three}
-use Rattle.base.specs.Bits.{bitOn}
+use Rattle.base.specs.Bytes.{two, three}
 use Rattle.questions.specs.declared.Question.the-variants as Question
-use Rattle.address.specs.Order.{lastCylinder, before, onPack}
-use Rattle.address.specs.Within.{within}
+use Rattle.address.specs.Order.{lastCylinder}
 use Rattle.channel.specs.declared.Csw.{Csw}
-use Rattle.channel.specs.Ccw as Ccw
-use Rattle.channel.specs.Walk as Walk
 use Rattle.drive.specs.declared.FileMask.the-variants.{Unset}
-use Rattle.drive.specs.Command as Command
-use Rattle.drive.specs.Step.{sought, spread}
 use Rattle.restart.specs.Restart.{ccwBytes, programOf, searchProgram, restartArgumentsOf, searchArguments}
-use Rattle.recovery.specs.Table as Table
 use Rattle.recovery.specs.Table.{rows, actionFor}
 use Rattle.recovery.specs.Report.{Report}
-use Rattle.recovery.specs.Correct as Correct
 use Rattle.recovery.specs.Recovery as Recovery
 use Rattle.recovery.specs.Recovery.{Given, refused, actionOne, actionTwo, repeats, finished, restarts, five, eight, recover}
 
+-- What recovery is given, the action that the error table chooses, and the answer.
 pub record Case : Type 0 where
   pub chain : List ℕ
   pub report : Report
@@ -39,7 +28,7 @@ pub record Case : Type 0 where
 -- ---- what the cases share
 
 -- the extent is "to 009/18", from 000/00
-given : List ℕ → Given
+unfoldable pub given : List ℕ → Given
 given chain = record {
   last = lastCylinder;
   rows = rows;
@@ -48,33 +37,35 @@ given chain = record {
 }
 
 -- sense 0 to 2 and the two displacements; sense 7 is 53, track 000/01, R1, sector 0, pattern 010204
-sense : (zero one two restart error : ℕ) → List ℕ
+unfoldable pub sense : (zero one two restart error : ℕ) → List ℕ
 sense s0 s1 s2 restart error =
     (s0 ∷ s1 ∷ s2 ∷ 0 ∷ 0 ∷ 0 ∷ 0 ∷ 0x53 ∷ []) ++ (0 ∷ 0 ∷ 0 ∷ 1 ∷ 1 ∷ 0 ∷ 0 ∷ []) ++ three restart ++ two error ++ (1 ∷ 2 ∷ 4 ∷ 0 ∷ [])
 
-csw : (address unit : ℕ) → Csw
+-- an address and a unit status; channel status and count left are 0
+unfoldable pub csw : (address unit : ℕ) → Csw
 csw address unit = record { address = address; unit = unit; channel = 0; count = 0 }
 
-reported : List ℕ → ℕ → Option (List ℕ) → ℕ → Report
+-- sense bytes, the CSW's address, a user's seek argument and the tries made; the read's first CCW is that at 0, and no mask was set
+unfoldable pub reported : List ℕ → ℕ → Option (List ℕ) → ℕ → Report
 reported s address seek tries = record { sense = s; csw = csw address 0x0e; first = 0; mask = Unset; seek = seek; tries = tries }
 
 -- a read of four bytes, and a command with bit 3 on behind it
-oneRead : List ℕ
+unfoldable pub oneRead : List ℕ
 oneRead = ccwBytes 0x06 0 0x40 4 ++ ccwBytes 0x12 4 0 8
 
 -- a read through two CCWs
-twoCcws : (count address : ℕ) → (count address : ℕ) → List ℕ
+unfoldable pub twoCcws : (count address : ℕ) → (count address : ℕ) → List ℕ
 twoCcws n a m b = ccwBytes 0x06 a 0x80 n ++ ccwBytes 0x06 b 0 m
 
 -- ---- kinds of cases
 
 -- by sense 0 to 2 and the tries made
-bySense : (zero one two tries : ℕ) → Option ℕ → Recovery.Recovery → Case
+unfoldable pub bySense : (zero one two tries : ℕ) → Option ℕ → Recovery.Recovery → Case
 bySense s0 s1 s2 tries action answer =
     record { chain = oneRead; report = reported (sense s0 s1 s2 4 4) 8 none tries; storage = replicate 4 0; action = action; answer = answer }
 
 -- with the cylinder of a user's seek argument, at head 7
-bySeek : ℕ → Recovery.Recovery → Case
+unfoldable pub bySeek : ℕ → Recovery.Recovery → Case
 bySeek cylinder answer = record {
   chain = oneRead;
   report = reported (sense 0x00 0x20 0x00 0 0) 8 (some (0 ∷ 0 ∷ two cylinder ++ two 7)) 0;
@@ -84,12 +75,12 @@ bySeek cylinder answer = record {
 }
 
 -- bytes at places of a storage of zeros
-withBytes : List (ℕ × ℕ) → List ℕ → List ℕ
+unfoldable pub withBytes : List (ℕ × ℕ) → List ℕ → List ℕ
 withBytes [] st = st
 withBytes (x ∷ xs) st = withBytes xs (set st (x .0) (x .1))
 
 -- by the displacements and the chain of a read that ends there; the places that are corrected, with their pattern bytes
-byPlaces : (restart error : ℕ) → List ℕ → List (ℕ × ℕ) → Case
+unfoldable pub byPlaces : (restart error : ℕ) → List ℕ → List (ℕ × ℕ) → Case
 byPlaces restart error chain places = record {
   chain = chain;
   report = reported (sense 0x08 0x00 0x40 restart error) 16 none 0;
@@ -99,13 +90,14 @@ byPlaces restart error chain places = record {
 }
 
 -- a restart of action 8 at a cylinder's head 0
-seeks : ℕ → Recovery.Recovery
+unfoldable pub seeks : ℕ → Recovery.Recovery
 seeks cylinder =
     restarts eight (programOf Unset (ccwBytes 0x1a 0 0x50 5) 0) (restartArgumentsOf (record { cylinder = cylinder; head = 0 }) Unset 0 []) (replicate 4 0)
 
 -- ---- the table
 
-pub cases : List Case
+-- T1 to T12; T12 has two rows
+unfoldable pub cases : List Case
 cases =
     -- "T1 08 00 40→5": the three pattern bytes are taken out, and the restart goes on with the command behind the read
     bySense 0x08 0x00 0x40 0 (some 5)
@@ -131,23 +123,17 @@ cases =
     ∷ bySeek 8 (seeks 9)
     ∷ []
 
--- ---- the proof
+-- ---- what is said of it
 
--- the action and the answer of the definitions, and those of the table
-pub found : Case → Option ℕ × Recovery.Recovery
+-- the action and the answer that the definitions give
+unfoldable pub found : Case → Option ℕ × Recovery.Recovery
 found k = (actionFor rows (k .report .sense), recover (given (k .chain)) (k .report) (k .storage))
 
-pub expected : Case → Option ℕ × Recovery.Recovery
+-- those of the table
+unfoldable pub expected : Case → Option ℕ × Recovery.Recovery
 expected k = (k .action, k .answer)
 
+-- each case comes to what the table has
 abbrev pub AllHold : List Case → Type 0
 AllHold [] = Unit
 AllHold (k ∷ ks) = (found k ≡ expected k) × AllHold ks
-
-all-hold : (ks : List Case) → map found ks ≡ map expected ks → AllHold ks
-all-hold [] h = tt
-all-hold (k ∷ ks) h = ((cc), all-hold ks (cc))
-
-pub cases-hold : AllHold cases
-unfolding cases found expected bySense bySeek byPlaces seeks withBytes given sense csw reported oneRead twoCcws pick opt part two three bitOn before onPack within Ccw.ccwAt Ccw.chainsData Ccw.chainsCommand Ccw.suppresses Ccw.skips Ccw.isTic Ccw.formed Ccw.addressOf Ccw.next Ccw.fetchIn Ccw.fetch Ccw.target Ccw.landed Ccw.follow Ccw.resolve Ccw.storageInside Walk.behindPlace Walk.placeUnder Walk.readable Walk.chained Walk.walk Walk.incorrectLength Command.codes Command.lookUp Command.commandOf sought spread ccwBytes rows Table.covers Table.fits actionFor Correct.mend Correct.samePlace Correct.overwritten Correct.corrected Recovery.onlyChain Recovery.seekAllowed Recovery.onNext Recovery.readsData Recovery.fetchMode Recovery.lessUnitCheck Recovery.alike Recovery.sensible Recovery.retrace Recovery.agrees Recovery.correction Recovery.searchRestart Recovery.afterWalk Recovery.walkedTo Recovery.actionFive Recovery.homeRestart Recovery.interrupted Recovery.userTrack Recovery.withTrack Recovery.actionEight Recovery.tried Recovery.act recover
-cases-hold = all-hold cases refl
