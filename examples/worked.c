@@ -1,4 +1,4 @@
-/* Reads document 01's worked example through the library, and prints the lines that the program `reading` prints for it. */
+/* Reads the example of samples/worked.hex through the library, and prints the lines that the program `reading` prints for it. */
 #include <stdio.h>
 
 #include "giruve.h"
@@ -27,36 +27,41 @@ static const uint8_t image[] = {
     0x02, 0, 12, 0, 0, 0, 1, 2, 0, 0, 4, 0xD1, 0xD2, 0xD3, 0xD4,
 };
 
-enum { LIMIT = 4096 };
-
 static uint8_t storage[4096];
 static uint8_t program[GIRUVE_PROGRAM];
 static uint8_t restart_arguments[GIRUVE_RESTART_ARGUMENTS];
-static uint8_t list[LIMIT * GIRUVE_ENTRY];
+static uint8_t list[GIRUVE_LIST_MAX];
 static uint8_t answer[GIRUVE_READING_ANSWER];
 
 int main(void)
 {
     uint8_t number = giruve_reading(chain, sizeof chain, arguments, sizeof arguments, storage, sizeof storage, image, sizeof image,
-                                    faults, sizeof faults, extent, sizeof extent, LIMIT, program, sizeof program,
+                                    faults, sizeof faults, extent, sizeof extent, GIRUVE_LIMIT_MAX, program, sizeof program,
                                     restart_arguments, sizeof restart_arguments, list, sizeof list, answer, sizeof answer);
     if (number != GIRUVE_DONE && number != GIRUVE_LIMIT && number != GIRUVE_STOPPED) {
         printf("refused %d\n", number);
         return 0;
     }
-    int made = answer[8] * 256 + answer[9];
+    const uint8_t *recoveries = answer + GIRUVE_AT_READING_RECOVERIES;
+    int made = recoveries[0] * 256 + recoveries[1];
     for (int i = 0; i < made; i++) {
         const uint8_t *entry = list + i * GIRUVE_ENTRY;
-        printf("action %s %03d %02d %03d\n", entry[0] == 0x15 ? "5A" : "5", entry[1] * 256 + entry[2], entry[3] * 256 + entry[4],
-               entry[5]);
+        const uint8_t *cylinder = entry + GIRUVE_AT_ENTRY_CYLINDER;
+        const uint8_t *head = entry + GIRUVE_AT_ENTRY_HEAD;
+        printf("action %s %03d %02d %03d\n", entry[GIRUVE_AT_ENTRY_ACTION] == GIRUVE_ACTION_5A ? "5A" : "5",
+               cylinder[0] * 256 + cylinder[1], head[0] * 256 + head[1], entry[GIRUVE_AT_ENTRY_RECORD]);
     }
     if (number == GIRUVE_DONE)
         printf("end");
     else if (number == GIRUVE_LIMIT)
         printf("limit");
     else
-        printf("stopped %d", answer[10]);
-    printf(" %02X%02X%02X %02X %02X %02X%02X\n", answer[1], answer[2], answer[3], answer[4], answer[5], answer[6], answer[7]);
+        printf("stopped %d", answer[GIRUVE_AT_READING_STOPPED_BY]);
+    const uint8_t *csw = answer + GIRUVE_AT_READING_CSW;
+    const uint8_t *address = csw + GIRUVE_AT_CSW_ADDRESS;
+    const uint8_t *count = csw + GIRUVE_AT_CSW_COUNT;
+    printf(" %02X%02X%02X %02X %02X %02X%02X\n", address[0], address[1], address[2], csw[GIRUVE_AT_CSW_UNIT_STATUS],
+           csw[GIRUVE_AT_CSW_CHANNEL_STATUS], count[0], count[1]);
     for (int i = 0; i < 16; i++)
         printf("%02X", storage[i]);
     printf("\n");

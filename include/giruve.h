@@ -1,23 +1,29 @@
 /*
- * Giruve: reading IBM 3330 packs, and recovery from correctable data checks. The proved library's calls for C.
+ * Giruve: finishes reads of an IBM 3330 disk that a correctable data check cut short. The calls of the proved library libgiruve.a, for C.
  *
- * Every area is a pointer and a length in bytes. A pointer is never NULL, not even for length 0, and an area that a call writes
- * overlaps no other area of that call; everything else about the areas is checked. Numbers of several bytes are big-endian.
- * Each call returns the number of the first question whose answer is no, and has then changed nothing:
+ * What for. An adapter starts a chain of CCWs on its channel. Where the chain ends with unit check, it fetches the sense bytes, writes
+ * them with the CSW into a report, and calls giruve_recover, which mends the bytes that are wrong in storage and says how to go on: most
+ * often by the restart program that it has built. The next cut is treated alike, until the chain has ended. examples/adapter.c does this
+ * from end to end. Besides, there are a trial drive that runs chains over the image of a pack (giruve_run, giruve_run_restart), a whole
+ * reading on that drive (giruve_reading; examples/worked.c), and the checks of what these are lent (giruve_check_..).
  *
- *   1  the areas and limits are not as below
- *   2  the image is not well formed
- *   3  a fault is not well formed, or its record is not in the image
- *   4  the report is not well formed
- *   5  the extent is not on the pack, or its first track is after its last
- *   6  no row of the error table matches the sense bytes
- *   7  the action is 6, 6A, 7, 9 or 11, which are not built
- *   8  action 5, but sense byte 7 is not 53
- *   9  report and chain do not agree
+ * Areas. An area is a pointer and a length in bytes. A pointer is never NULL, not even for length 0, and an area that a call writes
+ * overlaps no other area of that call; all else about the areas is checked. No area needs an alignment.
  *
- * Areas: chain 8 to 2,048 bytes, a multiple of 8; arguments up to 4,096; storage and fault list up to 65,536; image up to 1,048,576;
- * extent 8; restart program 64; restart arguments 16; command limit 1 to 4,096. An answer area has exactly GIRUVE_RUN_ANSWER,
- * GIRUVE_RECOVERY_ANSWER or GIRUVE_READING_ANSWER bytes.
+ * Questions. A call asks its questions in the order of their numbers (GIRUVE_REFUSED_..), returns the number of the first whose answer is
+ * no, and has then changed nothing. Where all are answered with yes, it returns GIRUVE_DONE, GIRUVE_LIMIT or GIRUVE_STOPPED, and has
+ * written its answer area and whatever else is named with the call, and nothing besides.
+ *
+ * State. A call keeps nothing for the next one. The library has no writable data of its own, allocates nothing and makes no system call.
+ * Calls may run on several threads at once, as long as an area that one of them writes is lent to no other meanwhile; areas that all of
+ * them only read may be shared. A call needs GIRUVE_STACK bytes of stack.
+ *
+ * Linking. libgiruve.a is for x86-64, as ELF, with the System V calling convention (Linux); red zone and SSE registers are used as that
+ * convention has them. It is position independent: it may become part of any program or shared library. It calls memmove and memset
+ * and no other function from outside, so that a program without a C library need only bring these two.
+ *
+ * Bytes. A number of several bytes has its highest byte first, and bit 0 of a byte is its highest bit. A number behind the name of a part is its
+ * length in bytes.
  */
 #ifndef GIRUVE_H
 #define GIRUVE_H
@@ -29,58 +35,213 @@
 extern "C" {
 #endif
 
-/* Returned besides the number of a question, which is 1 to 63. */
+/*
+ * The version of this header, which is C99 and C++11, and of the library beside it; no call tells it. Major: a name or a call has changed or
+ * gone, or an answer is another one; a program must be looked at. Minor: names or calls were added; a program need only be compiled. Patch:
+ * neither.
+ */
+#define GIRUVE_VERSION "1.0.0"
 enum {
-    GIRUVE_DONE = 0,     /* accepted, ended or answered */
-    GIRUVE_LIMIT = 64,   /* a run or a reading ended as "limit" */
-    GIRUVE_STOPPED = 65  /* a reading ended as "stopped" */
+    GIRUVE_VERSION_MAJOR = 1,
+    GIRUVE_VERSION_MINOR = 0,
+    GIRUVE_VERSION_PATCH = 0,
 };
 
-/* Lengths of areas. */
+/* What a call returns where no question refuses it. */
 enum {
+    GIRUVE_DONE = 0,      /* accepted, ended or answered */
+    GIRUVE_LIMIT = 64,    /* "limit": as many commands as a run may begin, and no end; or a cut behind as many recoveries as a reading may make */
+    GIRUVE_STOPPED = 65,  /* a reading ended as "stopped": a cut could not be recovered from */
+};
+
+/*
+ * What a call returns where a question refuses it: the question whose answer is no. What makes an image, a fault list or a report well formed,
+ * and when report and chain agree, stands point by point in docs/REFERENCE.md of the repository.
+ */
+enum {
+    GIRUVE_REFUSED_AREAS = 1,      /* Are the lengths of all areas, and the command limit, as they must be? */
+    GIRUVE_REFUSED_IMAGE = 2,      /* Is the image well formed? */
+    GIRUVE_REFUSED_FAULTS = 3,     /* Are the faults well formed, and has the image their records? */
+    GIRUVE_REFUSED_REPORT = 4,     /* Is the report well formed? */
+    GIRUVE_REFUSED_EXTENT = 5,     /* Are both tracks of the extent on the pack, and is the first not after the last? */
+    GIRUVE_REFUSED_ROW = 6,        /* Do sense bytes 0 to 2 name an error that the error table has? */
+    GIRUVE_REFUSED_ACTION = 7,     /* Is the action for that error none of 6, 6A, 7, 9 and 11, which are not built? */
+    GIRUVE_REFUSED_FORMAT = 8,     /* For action 5: is sense byte 7 that of a correctable data check, 53 hexadecimal? */
+    GIRUVE_REFUSED_AGREEMENT = 9,  /* Do report and chain agree? */
+};
+
+/*
+ * Lengths of the areas that a caller lends. Those with one length have it exactly.
+ *
+ * chain      CCWs, a multiple of GIRUVE_CHAIN_MIN bytes; the first has address 0. TICs name CCWs of the chain, control and search commands
+ *            bytes of the arguments, reads bytes of the storage; the first byte of each has address 0.
+ * arguments  what control and search commands take: seek addresses, file mask, sector, IDs.
+ * storage    what reads fill.
+ * image      tagged fields (tag 1, length of the contents 2, contents). For each track, in ascending order: tag 01 hexadecimal, its home
+ *            address (00, cylinder 2, 00, head 1); then for each record tag 02, its count area (cylinder 2, head 2, record number 1, key
+ *            length 1, data length 2), key and data, together at most 13,030 bytes. Record 0 comes first; the others have distinct
+ *            numbers. May be empty.
+ * faults     tagged fields, at most one for a record: tag 20 hexadecimal, the record (cylinder 2, head 2, record number 1, not 0), error
+ *            displacement 2 (where the wrong bytes begin, counted back from the end of the data area) and pattern 3. May be empty.
+ * extent     the tracks in which a restart may seek: the first and the last, each cylinder 2, head 2. A pack has cylinders 0 to 410, heads
+ *            0 to 18.
+ * list       entries of a reading's recoveries: room for as many as the command limit, or more.
+ */
+enum {
+    GIRUVE_CHAIN_MIN = 8,
+    GIRUVE_CHAIN_MAX = 2048,
+    GIRUVE_ARGUMENTS_MAX = 4096,
+    GIRUVE_STORAGE_MAX = 65536,
+    GIRUVE_IMAGE_MAX = 1048576,
+    GIRUVE_FAULTS_MAX = 65536,
     GIRUVE_EXTENT = 8,
-    GIRUVE_PROGRAM = 64,
-    GIRUVE_RESTART_ARGUMENTS = 16,
+    GIRUVE_REPORT_MAX = 60,         /* all six fields; a longer report is not well formed */
+    GIRUVE_PROGRAM = 64,            /* restart program */
+    GIRUVE_RESTART_ARGUMENTS = 16,  /* its arguments */
     GIRUVE_RUN_ANSWER = 36,
     GIRUVE_RECOVERY_ANSWER = 10,
     GIRUVE_READING_ANSWER = 11,
-    GIRUVE_ENTRY = 6  /* one recovery in the list of a reading */
+    GIRUVE_ENTRY = 6,               /* one entry of a list */
+    GIRUVE_LIST_MAX = 24576,        /* GIRUVE_LIMIT_MAX entries: a list of this length serves every command limit */
 };
 
-/* Questions 1 and 2. */
+/* Lengths of parts. */
+enum {
+    GIRUVE_CSW = 8,
+    GIRUVE_SENSE = 24,
+};
+
+/*
+ * Command limits: the commands that a run may begin. TICs and data-chained CCWs do not count. A reading also recovers from no more cuts
+ * than the limit of its chain.
+ */
+enum {
+    GIRUVE_LIMIT_MIN = 1,
+    GIRUVE_LIMIT_MAX = 4096,
+    GIRUVE_RESTART_LIMIT = 8192,  /* of a restart program's run, always */
+};
+
+/*
+ * Bytes of stack that suffice for any call: its arguments and return address, all frames below them, and memmove and memset, even where the
+ * dynamic linker first looks for these in the middle of a call. It is measured, with room above it (docs/FIGURES.md of the repository).
+ * giruve_recover and the checks, without that search, use less than a tenth of it.
+ */
+enum {
+    GIRUVE_STACK = 24576,
+};
+
+/* Places in a CSW. Its first byte is 0. */
+enum {
+    GIRUVE_AT_CSW_ADDRESS = 1,         /* 3: address of the last CCW, plus the length of a CCW */
+    GIRUVE_AT_CSW_UNIT_STATUS = 4,     /* 1 */
+    GIRUVE_AT_CSW_CHANNEL_STATUS = 5,  /* 1 */
+    GIRUVE_AT_CSW_COUNT = 6,           /* 2: count left */
+};
+
+/* Bits of the unit status. */
+enum {
+    GIRUVE_CHANNEL_END = 0x08,
+    GIRUVE_DEVICE_END = 0x04,
+    GIRUVE_UNIT_CHECK = 0x02,      /* the sense bytes say why */
+    GIRUVE_UNIT_EXCEPTION = 0x01,  /* a record without data */
+};
+
+/* Bits of the channel status. */
+enum {
+    GIRUVE_INCORRECT_LENGTH = 0x40,  /* bytes of a record, or a part of the count, were left over */
+    GIRUVE_PROGRAM_CHECK = 0x20,     /* the chain itself is at fault */
+};
+
+/*
+ * A report: tagged fields (tag 1, length of the contents 2, contents) in ascending order of their tags. The first three must be there, the
+ * others may be.
+ */
+enum {
+    GIRUVE_TAG_SENSE = 0x10,          /* GIRUVE_SENSE */
+    GIRUVE_TAG_CSW = 0x11,            /* GIRUVE_CSW: its first byte 0, its address counted from the front of the chain */
+    GIRUVE_TAG_FIRST_CCW = 0x12,      /* 2: address of the first CCW of the read that was cut, and of its data chain; 0 where no read was cut */
+    GIRUVE_TAG_MASK = 0x13,           /* 1: the file mask that the chain had set, with bits 2, 5 and 6 off; absent where it had set none */
+    GIRUVE_TAG_SEEK_ARGUMENT = 0x14,  /* 6: 0, 0, cylinder 2, head 2, for actions 8, 10 and 10A: that of the seek that a mask forbade, else of the last
+                                         seek made, by a restart too. It cannot be checked: a wrong one leads to a wrong track */
+    GIRUVE_TAG_TRIES = 0x15,          /* 1: how often it was tried again for this error; absent stands for 0 */
+};
+
+/* Where the restart stands among the addresses of the chain: its CCWs name these places, and its last TIC a CCW of the chain. */
+enum {
+    GIRUVE_PROGRAM_ADDRESS = 0x1000,
+    GIRUVE_RESTART_ARGUMENTS_ADDRESS = 0x2000,
+};
+
+/* Places in the answer of a run. */
+enum {
+    GIRUVE_AT_RUN_CSW = 0,         /* GIRUVE_CSW */
+    GIRUVE_AT_RUN_SENSE = 8,       /* GIRUVE_SENSE: zeros where there is no unit check */
+    GIRUVE_AT_RUN_MASK_SET = 32,   /* 1: whether a file mask is set, 1 or 0 */
+    GIRUVE_AT_RUN_MASK = 33,       /* 1: that mask, or 0 */
+    GIRUVE_AT_RUN_FIRST_CCW = 34,  /* 2: address of the first CCW of a read that was cut, or 0 where none was */
+};
+
+/* Places in the answer of a recovery. */
+enum {
+    GIRUVE_AT_RECOVERY_WHAT = 0,    /* 1: GIRUVE_ANSWER_.. */
+    GIRUVE_AT_RECOVERY_ACTION = 1,  /* 1: GIRUVE_ACTION_.. */
+    GIRUVE_AT_RECOVERY_CSW = 2,     /* GIRUVE_CSW: zeros, but for GIRUVE_ANSWER_FINISHED */
+};
+
+/* What is to be done, by the answer of a recovery. */
+enum {
+    GIRUVE_ANSWER_ACTION_1 = 1,        /* the error is permanent: tell the operator */
+    GIRUVE_ANSWER_ACTION_2 = 2,        /* give the error back to the program that wanted to read, without another try */
+    GIRUVE_ANSWER_REPEAT = 3,          /* run the chain again from its start, and count this as a try */
+    GIRUVE_ANSWER_CORRECTED_ONLY = 4,  /* storage is mended; the chain is not carried on, since its mask has bit 7 (PCI fetch mode) on */
+    GIRUVE_ANSWER_FINISHED = 5,        /* storage is mended, and the chain was at its end: it ended with the CSW of the answer */
+    GIRUVE_ANSWER_RESTART = 6,         /* start the restart program; for action 5 and 5A storage is mended */
+};
+
+/* The action by which a recovery was made. */
+enum {
+    GIRUVE_ACTION_NONE = 0,    /* with GIRUVE_ANSWER_ACTION_1, GIRUVE_ANSWER_ACTION_2 and GIRUVE_ANSWER_REPEAT */
+    GIRUVE_ACTION_5 = 0x05,    /* a data check mended; a restart goes on behind the record, found by its ID */
+    GIRUVE_ACTION_5A = 0x15,   /* the same, with a read count before the restart's last TIC */
+    GIRUVE_ACTION_8 = 0x08,    /* a restart at the first track of the next cylinder, with the CCW that was interrupted */
+    GIRUVE_ACTION_10 = 0x0A,   /* a restart that makes the user's seek, and goes on behind it */
+    GIRUVE_ACTION_10A = 0x1A,  /* a restart at the next track, with the CCW that was interrupted */
+};
+
+/* Places in the answer of a reading. */
+enum {
+    GIRUVE_AT_READING_CSW = 0,          /* GIRUVE_CSW */
+    GIRUVE_AT_READING_RECOVERIES = 8,   /* 2: how many were made, and stand in the list */
+    GIRUVE_AT_READING_STOPPED_BY = 10,  /* 1: for GIRUVE_STOPPED, GIRUVE_ANSWER_ACTION_2 or GIRUVE_REFUSED_AGREEMENT; else 0 */
+};
+
+/* Places in an entry of a reading's list. */
+enum {
+    GIRUVE_AT_ENTRY_ACTION = 0,    /* 1: GIRUVE_ACTION_5 or GIRUVE_ACTION_5A */
+    GIRUVE_AT_ENTRY_CYLINDER = 1,  /* 2 */
+    GIRUVE_AT_ENTRY_HEAD = 3,      /* 2 */
+    GIRUVE_AT_ENTRY_RECORD = 5,    /* 1 */
+};
+
+/* Asks GIRUVE_REFUSED_AREAS and GIRUVE_REFUSED_IMAGE of an image. Writes nothing. */
 uint8_t giruve_check_image(const uint8_t *image, size_t image_length);
 
-/* Questions 1, 2 and 3. */
+/* Asks GIRUVE_REFUSED_AREAS, GIRUVE_REFUSED_IMAGE and GIRUVE_REFUSED_FAULTS of an image and a fault list. Writes nothing. */
 uint8_t giruve_check_faults(const uint8_t *image, size_t image_length, const uint8_t *faults, size_t faults_length);
 
-/* Questions 1 and 5. */
+/* Asks GIRUVE_REFUSED_AREAS and GIRUVE_REFUSED_EXTENT of an extent. Writes nothing. */
 uint8_t giruve_check_extent(const uint8_t *extent, size_t extent_length);
 
-/* Question 1 alone, from the lengths of a run's areas and its command limit; and of the restart areas. */
+/* Ask GIRUVE_REFUSED_AREAS alone, of the lengths of a run's areas and its command limit, and of the lengths of the restart areas. */
 uint8_t giruve_check_areas(size_t chain, size_t arguments, size_t storage, size_t image, size_t faults, size_t limit);
 uint8_t giruve_check_restart_areas(size_t program, size_t restart_arguments);
 
 /*
- * A run of a chain: questions 1, 2 and 3, then 0 where it ended (a cut too) or GIRUVE_LIMIT. The answer: CSW 8, sense 24, whether a
- * file mask is set 1, the mask 1, address of the first CCW of a cut read 2 (0 where there is no cut). A cut shows as unit check in the
- * CSW with sense byte 0 = 08.
- */
-uint8_t giruve_run(const uint8_t *chain, size_t chain_length, const uint8_t *arguments, size_t arguments_length,
-                   uint8_t *storage, size_t storage_length, const uint8_t *image, size_t image_length,
-                   const uint8_t *faults, size_t faults_length, size_t limit, uint8_t *answer, size_t answer_length);
-
-/* A run of a restart program, with its limit of 8,192 commands; returned and answered as above. */
-uint8_t giruve_run_restart(const uint8_t *chain, size_t chain_length, const uint8_t *arguments, size_t arguments_length,
-                           const uint8_t *program, size_t program_length,
-                           const uint8_t *restart_arguments, size_t restart_arguments_length,
-                           uint8_t *storage, size_t storage_length, const uint8_t *image, size_t image_length,
-                           const uint8_t *faults, size_t faults_length, uint8_t *answer, size_t answer_length);
-
-/*
- * Recovery from a report (tagged fields 10, 11, 12 and, where they are there, 13, 14, 15): questions 1 and 4 to 9, then 0. The answer:
- * what is to be done 1 (1 action 1, 2 action 2, 3 run the chain again, 4 corrected only, 5 finished, 6 restart), the action 1 (05, 15
- * for 5A, 08, 0A for 10, 1A for 10A; 0 for 1 to 3), and for "finished" the CSW 8, else zeros. Storage is corrected for 4, 5 and 6 by
- * action 5; for 6 the restart is in its two areas. Areas that an answer does not name keep their bytes.
+ * Recovers from one report. Asks GIRUVE_REFUSED_AREAS, then GIRUVE_REFUSED_REPORT and all that follow it; then returns GIRUVE_DONE.
+ *
+ * Writes the answer (GIRUVE_AT_RECOVERY_..), and by what it says (GIRUVE_ANSWER_..): storage, where it is mended; the restart program and its
+ * arguments, both whole, for GIRUVE_ANSWER_RESTART. Where the seek of a restart would leave the pack or the extent, there is none:
+ * GIRUVE_ANSWER_ACTION_2 is answered, and storage keeps its bytes.
  */
 uint8_t giruve_recover(const uint8_t *chain, size_t chain_length, const uint8_t *report, size_t report_length,
                        const uint8_t *extent, size_t extent_length, uint8_t *storage, size_t storage_length,
@@ -88,10 +249,34 @@ uint8_t giruve_recover(const uint8_t *chain, size_t chain_length, const uint8_t 
                        uint8_t *restart_arguments, size_t restart_arguments_length, uint8_t *answer, size_t answer_length);
 
 /*
- * A whole reading: run, recover, run on. Questions 1, 2, 3 and 5, then 0 where it ended, GIRUVE_LIMIT or GIRUVE_STOPPED. The answer:
- * CSW 8, number of recoveries 2, the number that stopped it 1 (0 where none did). The list has room for limit entries of 6 bytes, or
- * more, and gets one for each recovery, in order: action 05, or 15 for 5A, cylinder 2, head 2, record 1. The last restart built
- * remains in its areas.
+ * Runs a chain on the trial drive, which begins at the index of track 000/00 and has no file mask. Asks GIRUVE_REFUSED_AREAS,
+ * GIRUVE_REFUSED_IMAGE and GIRUVE_REFUSED_FAULTS; then returns GIRUVE_DONE where the run ended, by a cut too, or GIRUVE_LIMIT.
+ *
+ * Writes the answer (GIRUVE_AT_RUN_..), and storage as the reads do. A read of a faulted record is a cut: its bytes arrive with the pattern
+ * exclusive-ored into them, and the run ends with GIRUVE_UNIT_CHECK and the sense bytes of a correctable data check.
+ *
+ * The drive takes these commands, hexadecimal, and rejects all others: 03 no-op, 07 seek, 1F set file mask, 23 set sector, 31 search ID
+ * equal, 06 read data, 0E read key and data, 12 read count, 1E read count, key and data, 1A read home address.
+ */
+uint8_t giruve_run(const uint8_t *chain, size_t chain_length, const uint8_t *arguments, size_t arguments_length,
+                   uint8_t *storage, size_t storage_length, const uint8_t *image, size_t image_length,
+                   const uint8_t *faults, size_t faults_length, size_t limit, uint8_t *answer, size_t answer_length);
+
+/*
+ * Runs a restart program, and the chain from the CCW on to which it leads, with GIRUVE_RESTART_LIMIT. Asks, returns and writes the same.
+ */
+uint8_t giruve_run_restart(const uint8_t *chain, size_t chain_length, const uint8_t *arguments, size_t arguments_length,
+                           const uint8_t *program, size_t program_length,
+                           const uint8_t *restart_arguments, size_t restart_arguments_length,
+                           uint8_t *storage, size_t storage_length, const uint8_t *image, size_t image_length,
+                           const uint8_t *faults, size_t faults_length, uint8_t *answer, size_t answer_length);
+
+/*
+ * A whole reading on the trial drive: run, recover, run on. Asks GIRUVE_REFUSED_AREAS, GIRUVE_REFUSED_IMAGE, GIRUVE_REFUSED_FAULTS and
+ * GIRUVE_REFUSED_EXTENT; then returns GIRUVE_DONE where it ended, GIRUVE_LIMIT or GIRUVE_STOPPED.
+ *
+ * Writes the answer (GIRUVE_AT_READING_..); storage as reads and recoveries do; the list, with an entry (GIRUVE_AT_ENTRY_..) for each
+ * recovery in order, and nothing behind the last; and for each restart its program and arguments, of which the last remain.
  */
 uint8_t giruve_reading(const uint8_t *chain, size_t chain_length, const uint8_t *arguments, size_t arguments_length,
                        uint8_t *storage, size_t storage_length, const uint8_t *image, size_t image_length,

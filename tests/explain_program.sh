@@ -26,6 +26,7 @@ for sample in samples/explain/*.hex; do
     name=${sample%.hex}
     compare "$name" <(printed "$explain" "$sample") "$name.out"
 done
+echo "tried: samples of \`explain\`: $(ls samples/explain/*.hex | wc -l)"
 compare "60,000 bytes" <(zeros 59986 8 | "$explain") <(slots; echo "$refusal")
 compare "60,001 bytes" <(zeros 59987 8 | "$explain") <(echo "$refusal")
 compare "2,048 bytes of chain" <(zeros 2048 8 | "$explain") <(slots; echo 'refused 4: is the report well formed?')

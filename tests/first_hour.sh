@@ -1,6 +1,6 @@
 #!/usr/bin/env bash
-# The first hour with the repository: what samples/bytes.sh and samples/run.sh refuse, what they show and how they end, and the commands of
-# the pages as they stand there. Needs every crate proved, and leaves the library in target/staticlib.
+# The first hour with the repository: what samples/bytes.sh and samples/run.sh refuse, what they show and how they end. Needs every crate
+# proved. The commands of the pages are run by tests/pages.sh.
 set -euo pipefail
 cd "$(dirname "${BASH_SOURCE[0]}")/.."
 source tests/compare.sh
@@ -9,23 +9,6 @@ export LC_ALL=C
 work=$(mktemp -d)
 trap 'rm -rf "$work"' EXIT
 
-# script FILE LINES
-script() {
-    printf '#!/bin/sh\n%s\n' "$2" > "$1"
-    chmod +x "$1"
-}
-
-# outcome RT COMMAND .. is what a command comes to where `rt` is a script of these lines: its exit status, then standard error behind `! `,
-# then standard output.
-outcome() {
-    local status=0
-    script "$work/bin/rt" "$1"
-    PATH=$work/bin:$PATH "${@:2}" > "$work/out" 2> "$work/err" || status=$?
-    echo "exit $status"
-    sed 's/^/! /' "$work/err"
-    cat "$work/out"
-}
-mkdir "$work/bin"
 proved='exit 0'
 unproved='echo "rt was asked: $*" >&2; exit 1'
 
@@ -190,36 +173,4 @@ for jobs in 1 2 4; do
     RT_JOBS=$jobs minutes 45
 done > "$work/minutes"
 compare "progress: minutes" "$work/minutes" <(printf '%s\n' 8 5 5)
-
-# ---- the pages
-
-# block PAGE TEXT is the block of commands of a page that has this text in it.
-block() {
-    awk -v text="$2" '
-        function show() { if (index(lines, text)) printf "%s", lines; lines = "" }
-        /^    / { lines = lines substr($0, 5) "\n"; next }
-        { show() }
-        END { show() }' "$1"
-}
-
-# prints PAGE COMMANDS EXPECTED. The last lines that commands of a page print are these.
-prints() {
-    compare "$1: ${2//$'\n'/; }" <(bash -e -c "$2" 2>&1 | tail -n "$(wc -l < "$3")") "$3"
-}
-
-rm -rf target/staticlib target/worked
-prints README.md "$(block README.md 'rt staticlib')" samples/worked.out
-prints README.md "$(block README.md 'rt try' | grep '^rt try')" samples/worked.out
-prints README.md "$(block README.md 'samples/run.sh' | grep '^bash samples/run.sh')" samples/worked.out
-prints docs/TRAINERS.md "$(block docs/TRAINERS.md 'rt try')" samples/explain/t9.out
-compare "docs/OPERATORS.md: as in README.md" <(block docs/OPERATORS.md 'rt try') <(block README.md 'rt try' | sed -n '/^rt try/s/ *#.*//p')
-
-script "$work/bin/rt" "$proved"
-PATH=$work/bin:$PATH
-prints docs/OPERATORS.md "$(block docs/OPERATORS.md 'samples/run.sh')" samples/worked.out
-prints docs/TRAINERS.md "$(block docs/TRAINERS.md 'samples/explain/t9.hex')" samples/explain/t9.out
-prints samples/README.md "$(block samples/README.md 'samples/run.sh')" samples/worked.out
-prints samples/README.md "$(block samples/README.md 'samples/bytes.sh')" samples/worked.out
-cp "$work/dropped_digit.hex" "$work/my.hex"
-compare "docs/OPERATORS.md: my.hex" <(cd "$work" && bash "$OLDPWD/samples/run.sh" my.hex 2>&1) <(block docs/OPERATORS.md my.hex:)
 exit "$failed"

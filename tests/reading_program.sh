@@ -35,6 +35,7 @@ for sample in samples/*.hex; do
     name=${sample%.hex}
     compare "$name" <(printed "$reading" "$sample") <(expected "$name")
 done
+echo "tried: samples of \`reading\`: $(ls samples/*.hex | wc -l)"
 compare "60,000 bytes" <(long 0 | "$reading") samples/worked.out
 compare "60,001 bytes" <(long 1 | "$reading") samples/refused_1.out
 exit "$failed"

@@ -1,6 +1,6 @@
 #!/usr/bin/env bash
 # Edits of the definitions that make demand 3 false. Each is applied in a copy of the crates; then a law that `demand-three` rests on, or the
-# theorem itself, must no longer be proved, and the first error must say so (tests/refusals). The test of this test: the edits of
+# theorem itself, must not be proved, and the first error must say so (tests/refusals). The test of this test: the edits of
 # tests/theorem/bad are none, and each must be reported. An edit: `# why`, `file: PATH`, then pairs of `old: TEXT` and `new: TEXT`.
 set -euo pipefail
 cd "$(dirname "${BASH_SOURCE[0]}")/.."
@@ -57,4 +57,5 @@ for edit in tests/theorem/bad/*.edit; do
         exit 1
     fi
 done
-echo "theorem: $count edits of the definitions, each refused; $(ls tests/theorem/bad | wc -l) that are none, each reported"
+echo "theorem: each of these refused; $(ls tests/theorem/bad | wc -l) edits that are none, each reported"
+echo "tried: edits of the definitions that make demand 3 false: $count"

@@ -23,6 +23,8 @@ pub trait Call: Clone + Default {
     type Lent: Clone + Debug + Default + PartialEq;
     type Answer: Debug + PartialEq;
 
+    /// What several calls are called.
+    const CALLS: &'static str;
     /// The words of which each case has one.
     const ANSWERS: &'static [&'static str];
     /// The words that may be said again.
@@ -118,8 +120,9 @@ fn different<T: Debug + PartialEq>(what: &str, expected: &T, shown: &T) -> Optio
 pub fn check<C: Call>(simulator: Runner<C>, library: Runner<C>) -> ExitCode {
     let directory = std::env::args().nth(1).expect("a directory of cases");
     let runners = [("simulator", simulator), ("library", library)];
-    let passed = runners.map(|(name, run)| all_pass::<C>(Path::new(&directory), name, run));
-    if passed == [true; 2] {
+    let passed = runners.map(|(name, run)| passed::<C>(Path::new(&directory), name, run));
+    if let [Some(cases), Some(_)] = passed {
+        println!("tried: {} written by hand: {cases}", C::CALLS);
         ExitCode::SUCCESS
     } else {
         ExitCode::FAILURE
@@ -127,27 +130,35 @@ pub fn check<C: Call>(simulator: Runner<C>, library: Runner<C>) -> ExitCode {
 }
 
 /// Runs every case of the directory's `.txt` files, prints what comes out otherwise than they say,
-/// and tells whether nothing did.
-fn all_pass<C: Call>(directory: &Path, runner: &str, run: Runner<C>) -> bool {
+/// and tells the number of cases if nothing did.
+fn passed<C: Call>(directory: &Path, runner: &str, run: Runner<C>) -> Option<usize> {
     let mut cases = 0;
     let mut failed = 0;
-    for file in files(directory) {
-        let text = fs::read_to_string(&file).expect("the file can be read");
-        let read = text::read::<C>(&text);
-        for case in read.unwrap_or_else(|error| panic!("{}: {error}", file.display())) {
-            let differences = case.differences(run);
-            cases += 1;
-            if !differences.is_empty() {
-                failed += 1;
-                println!("{runner}: {}, {}", file.display(), case.name);
-            }
-            for difference in differences {
-                println!("  {difference}");
-            }
+    for (file, case) in read_all::<C>(directory) {
+        let differences = case.differences(run);
+        cases += 1;
+        if !differences.is_empty() {
+            failed += 1;
+            println!("{runner}: {}, {}", file.display(), case.name);
+        }
+        for difference in differences {
+            println!("  {difference}");
         }
     }
     println!("{runner}: {cases} cases, {failed} failed");
-    cases > 0 && failed == 0
+    (cases > 0 && failed == 0).then_some(cases)
+}
+
+/// Every case of the directory's `.txt` files, each behind its file.
+pub fn read_all<C: Call>(directory: &Path) -> Vec<(PathBuf, Case<C>)> {
+    let mut all = Vec::new();
+    for file in files(directory) {
+        let text = fs::read_to_string(&file).expect("the file can be read");
+        let read = text::read::<C>(&text);
+        let cases = read.unwrap_or_else(|error| panic!("{}: {error}", file.display()));
+        all.extend(cases.into_iter().map(|case| (file.clone(), case)));
+    }
+    all
 }
 
 fn files(directory: &Path) -> Vec<PathBuf> {

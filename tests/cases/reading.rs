@@ -61,6 +61,7 @@ impl Call for Said {
     type Lent = Lent;
     type Answer = Answer;
 
+    const CALLS: &'static str = "readings";
     const ANSWERS: &'static [&'static str] = &["end", "limit", "stopped", "refused"];
     const REPEATED: &'static [&'static str] = &["action"];
 

@@ -36,6 +36,7 @@ impl Call for Said {
     type Lent = Lent;
     type Answer = Answer;
 
+    const CALLS: &'static str = "recoveries";
     const ANSWERS: &'static [&'static str] = &[
         "refused",
         "action",

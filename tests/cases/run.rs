@@ -60,6 +60,7 @@ impl Call for Said {
     type Lent = Lent;
     type Answer = Answer;
 
+    const CALLS: &'static str = "runs";
     const ANSWERS: &'static [&'static str] = &["end", "limit", "refused"];
     const REPEATED: &'static [&'static str] = &["taken"];
 

@@ -63,17 +63,25 @@ fn main() -> ExitCode {
         println!("too few: {}", too_few.join(", "));
         return ExitCode::FAILURE;
     }
-    println!(
-        "{} inputs compared, {} of them runs, {} recoveries and {} readings, 0 disagreements",
-        tally.compared,
-        tally.runs(),
-        tally.recoveries(),
-        tally.readings()
-    );
-    println!(
-        "{} readings began, {} with two recoveries or more; demand 3 held of {}, {} with two or more",
-        tally.begun.all, tally.begun.of_two, tally.met.all, tally.met.of_two
-    );
+    println!("0 disagreements");
+    for (what, number) in [
+        (
+            "inputs on which library and simulator agree",
+            tally.compared,
+        ),
+        ("runs among these", tally.runs()),
+        ("recoveries among these", tally.recoveries()),
+        ("readings among these", tally.readings()),
+        ("readings that began", tally.begun.all),
+        ("of them with two recoveries or more", tally.begun.of_two),
+        (
+            "readings of which demand 3 was asked, and held",
+            tally.met.all,
+        ),
+        ("of these with two recoveries or more", tally.met.of_two),
+    ] {
+        println!("tried: {what}: {number}");
+    }
     ExitCode::SUCCESS
 }
 

@@ -4,8 +4,8 @@ use std::collections::BTreeSet;
 use std::fs;
 use std::path::{Path, PathBuf};
 
-/// The file of the module that a `use` line names, if it is one of proofs: `Rattle.C.proofs.M` and `Rattle.C.proofs.M` are
-/// `crates/C/proofs/M.antt`.
+/// The file of the module that a `use` line names, if it is one of proofs: `Rattle.CRATE.proofs.NAME` and
+/// `Rattle.CRATE.proofs.NAME` are `crates/CRATE/proofs/NAME.antt`.
 fn proof_file(line: &str) -> Option<PathBuf> {
     let path = line.strip_prefix("use Rattle·")?.split_whitespace().next()?;
     let path = path.split(".{").next()?;

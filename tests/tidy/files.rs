@@ -1,9 +1,14 @@
 //! The files that are read, and the places that are reported.
 
+use std::collections::BTreeSet;
 use std::fmt;
 use std::fs;
 use std::io;
 use std::path::Path;
+use std::process::Command;
+
+/// The notes of landings are no pages: they tell what was, and stay as they are.
+pub const NOTES: &str = "docs/requests/";
 
 pub struct File {
     /// From the repository's root.
@@ -37,7 +42,7 @@ impl File {
     }
 
     pub fn is_page(&self) -> bool {
-        self.path.ends_with(".md")
+        self.path.ends_with(".md") && !self.path.starts_with(NOTES)
     }
 
     pub fn place(&self, line: usize, what: String) -> Place {
@@ -49,36 +54,55 @@ impl File {
     }
 }
 
-/// `crates.txt`, the pages, and the sources of every crate.
+/// The pages, the sources of every crate, and all other text that is written by hand.
 pub struct Repository {
     pub files: Vec<File>,
+    /// All files and folders, but what is built.
+    pub paths: BTreeSet<String>,
     /// The folders of `crates/`.
     pub crates: Vec<String>,
+    /// What docs/lines.sh prints.
+    pub lines: String,
 }
+
+/// The endings of the files that are read.
+const READ: [&str; 10] = [
+    ".md",
+    ".antt",
+    ".rt",
+    ".edit",
+    ".sh",
+    ".rs",
+    ".h",
+    ".c",
+    ".ci/run",
+    "crates.txt",
+];
 
 impl Repository {
     pub fn read(root: &Path) -> io::Result<Repository> {
-        let mut paths = vec!["README.md".to_string(), "crates.txt".to_string()];
-        walk(root, "docs", &mut paths)?;
-        walk(root, "crates", &mut paths)?;
+        let mut paths = Vec::new();
+        walk(root, "", &mut paths)?;
         let mut files = Vec::new();
-        for path in paths {
-            let read = ["crates.txt", ".md", ".antt", ".rt"];
-            if read.iter().any(|ending| path.ends_with(ending)) {
-                let text = fs::read_to_string(root.join(&path))
+        for path in &paths {
+            if READ.iter().any(|ending| path.ends_with(ending)) {
+                let text = fs::read_to_string(root.join(path))
                     .map_err(|error| io::Error::new(error.kind(), format!("{path}: {error}")))?;
+                let path = path.clone();
                 files.push(File { path, text });
             }
         }
-        let mut crates = Vec::new();
-        for entry in fs::read_dir(root.join("crates"))? {
-            let entry = entry?;
-            if entry.file_type()?.is_dir() {
-                crates.push(entry.file_name().to_string_lossy().into_owned());
-            }
-        }
-        crates.sort();
-        Ok(Repository { files, crates })
+        let lines = Command::new("bash")
+            .arg(root.join("docs/lines.sh"))
+            .output()?;
+        let lines = String::from_utf8_lossy(&lines.stdout).into_owned();
+        let paths = with_folders(&paths);
+        Ok(Repository {
+            crates: owners(&paths),
+            files,
+            paths,
+            lines,
+        })
     }
 
     #[cfg(test)]
@@ -90,13 +114,18 @@ impl Repository {
                 text: text.to_string(),
             })
             .collect();
-        let mut crates: Vec<String> = files
-            .iter()
-            .filter_map(|file| file.owner().map(str::to_string))
-            .collect();
-        crates.sort();
-        crates.dedup();
-        Repository { files, crates }
+        let paths: Vec<String> = files.iter().map(|file| file.path.clone()).collect();
+        let paths = with_folders(&paths);
+        Repository {
+            crates: owners(&paths),
+            files,
+            paths,
+            lines: String::new(),
+        }
+    }
+
+    pub fn pages(&self) -> impl Iterator<Item = &File> {
+        self.files.iter().filter(|file| file.is_page())
     }
 
     pub fn file(&self, path: &str) -> Option<&File> {
@@ -104,20 +133,41 @@ impl Repository {
     }
 }
 
-/// The files below a folder, in order of their paths.
+/// The files below a folder, in order of their paths, but those that are built or git's own.
 fn walk(root: &Path, folder: &str, paths: &mut Vec<String>) -> io::Result<()> {
     let mut entries: Vec<fs::DirEntry> =
         fs::read_dir(root.join(folder))?.collect::<Result<_, _>>()?;
     entries.sort_by_key(|entry| entry.file_name());
     for entry in entries {
-        let path = format!("{folder}/{}", entry.file_name().to_string_lossy());
-        if entry.file_type()?.is_dir() {
-            walk(root, &path, paths)?;
-        } else {
+        let path = format!("{folder}{}", entry.file_name().to_string_lossy());
+        if !entry.file_type()?.is_dir() {
             paths.push(path);
+        } else if path != "target" && path != ".git" {
+            walk(root, &format!("{path}/"), paths)?;
         }
     }
     Ok(())
+}
+
+fn with_folders(paths: &[String]) -> BTreeSet<String> {
+    let mut all = BTreeSet::new();
+    for path in paths {
+        all.extend(
+            path.match_indices('/')
+                .map(|(at, _)| path[..at].to_string()),
+        );
+        all.insert(path.clone());
+    }
+    all
+}
+
+/// The folders of `crates/`, each once.
+fn owners(paths: &BTreeSet<String>) -> Vec<String> {
+    let below = paths.iter().filter_map(|path| path.strip_prefix("crates/"));
+    let owners: BTreeSet<&str> = below
+        .filter_map(|path| Some(path.split_once('/')?.0))
+        .collect();
+    owners.into_iter().map(str::to_string).collect()
 }
 
 pub struct Place {

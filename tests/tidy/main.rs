@@ -3,15 +3,26 @@
 //! `tidy [CHECK ..]`, in the repository's root: the checks that are named, or all. Prints each
 //! place as `file:line: what`, then for each check the number of its places.
 
+mod commands;
 mod comments;
 mod declarations;
+mod figures;
 mod files;
 mod imports;
 mod layers;
+mod links;
+mod order;
+#[allow(dead_code)]
+#[path = "../pages/page.rs"]
+mod page;
+mod paths;
 mod picture;
 mod points;
 mod rt;
 mod tokens;
+#[allow(dead_code)]
+#[path = "../pages/unrun.rs"]
+mod unrun;
 mod unused;
 mod uses;
 mod width;
@@ -22,14 +33,19 @@ use std::process::ExitCode;
 
 type Check = fn(&Repository) -> Vec<Place>;
 
-const CHECKS: [(&str, Check); 7] = [
+const CHECKS: [(&str, Check); 12] = [
     ("layers", layers::check),
     ("picture", picture::check),
     ("imports", imports::check),
     ("unused", unused::check),
+    ("order", order::check),
     ("width", width::check),
     ("points", points::check),
     ("comments", comments::check),
+    ("links", links::check),
+    ("paths", paths::check),
+    ("commands", commands::check),
+    ("figures", figures::check),
 ];
 
 fn main() -> ExitCode {

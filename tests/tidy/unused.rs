@@ -7,6 +7,9 @@ use crate::tokens::{blank, line_at, words, Names};
 use crate::uses::{reached, Parts, Reached};
 use std::collections::HashSet;
 
+/// A page here names samples, and no laws.
+const SAMPLES: &str = "samples/";
+
 pub fn check(repository: &Repository) -> Vec<Place> {
     let mut elsewhere: HashSet<Reached> = HashSet::new();
     let mut paged: HashSet<&str> = HashSet::new();
@@ -14,7 +17,7 @@ pub fn check(repository: &Repository) -> Vec<Place> {
         if file.is_antt() || file.is_rt() {
             let other = |one: &Reached| one.0 != file.path;
             elsewhere.extend(reached(&Parts::of(file)).into_iter().filter(other));
-        } else if file.is_page() {
+        } else if file.is_page() && !file.path.starts_with(SAMPLES) {
             paged.extend(quoted(&file.text));
         }
     }
@@ -130,6 +133,7 @@ m = 0
                 ("crates/b/proofs/x/Proof.antt", other),
                 ("crates/b/src/lib.rt", code),
                 ("README.md", "`a\nk` l `A.m`\n"),
+                ("samples/README.md", "`l`\n"),
             ]),
             [format!("{A}:9: nothing uses `l`")]
         );

@@ -1,4 +1,4 @@
--- DEMAND 3 of the contract with the user (README, "The demands"): "For every chain, arguments, storage, image, fault list, extent and command limit
+-- DEMAND 3 of the contract with the user (docs/PROOFS.md, "The demands"): "For every chain, arguments, storage, image, fault list, extent and command limit
 -- that document 01 lets a reading begin with, and however often the faults cut the chain, the whole reading ends, neither as 'limit' nor as 'stopped'.
 -- Then storage, ending address, unit and channel status and remaining count equal those of the faultless run (same chain, same pack, no faults)."
 --   Begins        what document 01 lets a reading begin with

@@ -1,0 +1,359 @@
+//! Questions: who asks which, the examples of a no, question 9 point by point.
+
+use super::book::{split, tagged, Book};
+use super::bytes::{byte, bytes, hex, number, Checked};
+use super::inputs::{worked, worked_reading};
+use crate::library::{self, RestartAreas, RunAreas};
+use crate::simulator::areas::RunSizes;
+use crate::simulator::cut::CutRule;
+use crate::simulator::held::{HeldReading, HeldRecovery};
+use crate::simulator::interrupted::InterruptedRule;
+use crate::simulator::{channel::ProgramCheck, Refusal};
+
+pub fn check(book: &Book) -> Checked {
+    numbers(book)?;
+    calls(book)?;
+    examples(book)?;
+    nine_of_five(book)?;
+    nine_of_eight_and_ten(book)
+}
+
+// ---- changes of the worked report
+
+/// The worked report, changed: "sense 18 = 0000; csw = ..".
+pub fn changed(book: &Book, changes: &str) -> Result<HeldRecovery, String> {
+    changed_on(book, worked(book)?, changes)
+}
+
+pub fn changed_on(
+    book: &Book,
+    mut held: HeldRecovery,
+    changes: &str,
+) -> Result<HeldRecovery, String> {
+    let mut fields: Vec<(u8, Vec<u8>)> = split(&held.report)?
+        .into_iter()
+        .map(|(tag, contents)| (tag, contents.to_vec()))
+        .collect();
+    for change in changes.split("; ") {
+        let no_change = || format!("'{change}' is no change");
+        let (place, to) = change.split_once(" = ").ok_or_else(no_change)?;
+        let absent = to == "absent";
+        let to = if absent { vec![] } else { bytes(to)? };
+        let mut of_field = |tag: u8| {
+            fields.retain(|(of, _)| *of != tag);
+            if !absent {
+                let place = fields.iter().position(|(of, _)| *of > tag);
+                fields.insert(place.unwrap_or(fields.len()), (tag, to.clone()));
+            }
+        };
+        match place.split_once(' ') {
+            Some(("sense", at)) => {
+                let (_, sense) = fields.first_mut().ok_or_else(no_change)?;
+                put(sense, number(at)?, &to).ok_or_else(no_change)?;
+            }
+            Some(("ccw", at)) => put(&mut held.chain, hex(at)?, &to).ok_or_else(no_change)?,
+            None if place == "csw" => of_field(book.tag("CSW")?),
+            None if place == "extent" => held.extent = to,
+            None => of_field(byte(place)?),
+            _ => return Err(no_change()),
+        }
+    }
+    held.report = fields
+        .iter()
+        .flat_map(|(tag, contents)| tagged(*tag, contents))
+        .collect();
+    Ok(held)
+}
+
+/// Puts bytes at a place where they fit.
+fn put(to: &mut [u8], at: usize, bytes: &[u8]) -> Option<()> {
+    to.get_mut(at..at + bytes.len())?.copy_from_slice(bytes);
+    Some(())
+}
+
+// ---- numbers and calls
+
+fn numbers(book: &Book) -> Checked {
+    let table = book
+        .page
+        .table("Questions", &["number", "asks", "C name"])?;
+    table.has(&["1", "2", "3", "4", "5", "6", "7", "8", "9"])
+}
+
+fn calls(book: &Book) -> Checked {
+    let table = book.page.table("Questions", &["call", "questions"])?;
+    let calls: [(&str, &[u8]); 9] = [
+        ("giruve_check_areas", &[1]),
+        ("giruve_check_restart_areas", &[1]),
+        ("giruve_check_image", &[1, 2]),
+        ("giruve_check_faults", &[1, 2, 3]),
+        ("giruve_check_extent", &[1, 5]),
+        ("giruve_run", &[1, 2, 3]),
+        ("giruve_run_restart", &[1, 2, 3]),
+        ("giruve_recover", &[1, 4, 5, 6, 7, 8, 9]),
+        ("giruve_reading", &[1, 2, 3, 5]),
+    ];
+    table.has(&calls.map(|(call, _)| call))?;
+    for [call, questions] in table.each() {
+        let mut asked = Vec::new();
+        for question in questions.split(", ") {
+            asked.push(number(question)? as u8);
+        }
+        let known = calls.iter().find(|(of, _)| *of == call);
+        ensure!(
+            known.map(|(_, known)| *known) == Some(&asked[..]),
+            "{call}: the trials are of {known:?}"
+        );
+        // Each alone, and each with one of a higher number.
+        for (at, &first) in asked.iter().enumerate() {
+            for &second in &asked[at..] {
+                let answer = refused(book, call, &[first, second])?;
+                ensure!(
+                    answer == first,
+                    "{call}: questions {first} and {second} are answered by {answer}"
+                );
+            }
+        }
+        ensure!(refused(book, call, &[])? == 0, "{call} refuses good areas");
+    }
+    Ok(())
+}
+
+/// What a call answers with these questions answered no.
+fn refused(book: &Book, call: &str, no: &[u8]) -> Result<u8, String> {
+    if call == "giruve_recover" {
+        let mut held = worked(book)?;
+        for question in no.iter().rev() {
+            held = changed_on(book, held, example(book, *question)?)?;
+        }
+        return Ok(book.recover(held)?.number);
+    }
+    let mut held = worked_reading(book)?;
+    spoil(&mut held, no);
+    let is = |question| no.contains(&question);
+    let areas = RunAreas {
+        chain: &mut held.chain,
+        arguments: &mut held.arguments,
+        storage: &mut held.storage,
+        image: &mut held.image,
+        faults: &mut held.faults,
+    };
+    let mut restart = (vec![0; 64], vec![0; 16]);
+    restart.0[..8].copy_from_slice(&book.ccw(0x03, 0, 0, 1)?);
+    if is(1) {
+        restart.1.push(0);
+    }
+    let sizes = RunSizes {
+        chain: areas.chain.len(),
+        arguments: areas.arguments.len(),
+        storage: areas.storage.len(),
+        image: areas.image.len(),
+        faults: areas.faults.len(),
+        limit: held.limit,
+    };
+    let mut answer = vec![0; 36];
+    let mut long = vec![0; 1_048_577];
+    Ok(match call {
+        "giruve_check_areas" => library::check_areas(sizes),
+        "giruve_check_restart_areas" => library::check_restart_areas(64, restart.1.len()),
+        "giruve_check_image" if is(1) => library::check_image(&mut long),
+        "giruve_check_image" => library::check_image(areas.image),
+        "giruve_check_faults" if is(1) => library::check_faults(areas.image, &mut long),
+        "giruve_check_faults" => library::check_faults(areas.image, areas.faults),
+        "giruve_check_extent" if is(1) => library::check_extent(&mut held.extent[..7]),
+        "giruve_check_extent" => library::check_extent(&mut held.extent),
+        "giruve_run" => library::run(areas, held.limit, &mut answer),
+        "giruve_run_restart" => {
+            let restart = RestartAreas {
+                program: &mut restart.0,
+                arguments: &mut restart.1,
+            };
+            library::run_restart(areas, restart, &mut answer)
+        }
+        _ => book.read(held)?.number,
+    })
+}
+
+/// Answers these questions of a reading with no.
+fn spoil(held: &mut HeldReading, no: &[u8]) {
+    for question in no {
+        match question {
+            1 => held.limit = 0,
+            2 => held.image[0] = 0xFF,
+            3 => held.faults[0] = 0xFF,
+            _ => held.extent[4..6].copy_from_slice(&[0xFF, 0xFF]),
+        }
+    }
+}
+
+// ---- examples
+
+fn example<'a>(book: &'a Book, question: u8) -> Result<&'a str, String> {
+    let table = book.page.table("Questions", &["number", "change"])?;
+    let row = table
+        .each()
+        .find(|[of, _]| number(of) == Ok(question.into()));
+    let [_, change] = row.ok_or(format!("no example of question {question}"))?;
+    Ok(change)
+}
+
+fn examples(book: &Book) -> Checked {
+    let table = book.page.table("Questions", &["number", "change"])?;
+    table.has(&["1", "4", "4", "5", "5", "6", "7", "8", "9"])?;
+    for [question, change] in table.each() {
+        let answer = book.recover(changed(book, change)?)?.number;
+        ensure!(
+            usize::from(answer) == number(question)?,
+            "{change}: {answer}, not {question}"
+        );
+    }
+    Ok(())
+}
+
+/// Asks that a change is refused by 9, and by the point that the row is about.
+fn refused_by_nine(book: &Book, held: HeldRecovery, point: Refusal) -> Checked {
+    let simulated = held.clone().simulated().map(|_| ());
+    ensure!(
+        simulated == Err(point),
+        "the example shows {simulated:?}, not {point:?}"
+    );
+    let answer = book.recover(held)?.number;
+    ensure!(answer == 9, "answered by {answer}");
+    Ok(())
+}
+
+fn nine_of_five(book: &Book) -> Checked {
+    use Refusal::{Cut, Next, Walk};
+    let points = [
+        (
+            "field 12 is the address of a CCW of the chain",
+            Cut(CutRule::NotInTheChain),
+        ),
+        ("field 12 is a multiple of 8", Cut(CutRule::NotInTheChain)),
+        ("that CCW is a 06, 0E or 1E", Cut(CutRule::OtherCommand)),
+        (
+            "the error displacement is not 0",
+            Cut(CutRule::NoErrorDisplacement),
+        ),
+        (
+            "the restart displacement is not below the error displacement",
+            Cut(CutRule::RestartBelowError),
+        ),
+        (
+            "the restart displacement is 13,038 or less",
+            Cut(CutRule::RestartTooFar),
+        ),
+        ("the sector, sense 13, is 7F or less", Cut(CutRule::Sector)),
+        (
+            "the data chain, walked for the restart displacement, meets no program check",
+            Walk(ProgramCheck::CountZero),
+        ),
+        (
+            "the walk ends at the CCW of the CSW's address less 8",
+            Cut(CutRule::OtherCcw),
+        ),
+        ("the walk leaves the CSW's count", Cut(CutRule::OtherCount)),
+        (
+            "the walk shows incorrect length where the CSW does",
+            Cut(CutRule::OtherLengthStatus),
+        ),
+        (
+            "for a restart: the CCW to go on with is in the chain",
+            Next(ProgramCheck::PastTheChain),
+        ),
+        (
+            "for a restart: it is not a TIC that a TIC names",
+            Next(ProgramCheck::TicToTic),
+        ),
+    ];
+    let table = book
+        .page
+        .table("Question 9, action 5", &["asked", "a no"])?;
+    table.has(&points.map(|(asked, _)| asked))?;
+    ensure!(
+        book.recover(worked(book)?)?.number == 0,
+        "the worked report"
+    );
+    for [asked, no] in table.each() {
+        let point = points.iter().find(|(of, _)| *of == asked);
+        let (_, point) = point.ok_or("no such point")?;
+        refused_by_nine(book, changed(book, no)?, *point)
+            .map_err(|failure| format!("{asked}: {no}: {failure}"))?;
+    }
+    not_asked(book)
+}
+
+/// What question 9 leaves unasked, as the page says.
+fn not_asked(book: &Book) -> Checked {
+    for change in [
+        "sense 12 = 99",
+        "sense 23 = 01",
+        "csw = 00 000020 F1 9F 0000",
+        "ccw 0020 = 06 FFFFFF 07 00 0000",
+    ] {
+        let answer = book.recover(changed(book, change)?)?.number;
+        ensure!(answer == 0, "{change}: {answer}");
+    }
+    Ok(())
+}
+
+fn nine_of_eight_and_ten(book: &Book) -> Checked {
+    use InterruptedRule::*;
+    use Refusal::{Interrupted, Next};
+    let points = [
+        ("field 14 is there", Interrupted(NoSeekArgument)),
+        ("it begins 00 00", Interrupted(SeekNotZero)),
+        ("its cylinder is 410 or less", Interrupted(SeekOffThePack)),
+        ("its head is 18 or less", Interrupted(SeekOffThePack)),
+        (
+            "the interrupted CCW is one of the chain",
+            Interrupted(NotInTheChain),
+        ),
+        ("it is no TIC", Interrupted(Tic)),
+        ("the seek has CC on", Interrupted(SeekWithoutCc)),
+        (
+            "the CCW behind the seek is in the chain",
+            Next(ProgramCheck::PastTheChain),
+        ),
+        (
+            "it is not a TIC that a TIC names",
+            Next(ProgramCheck::TicToTic),
+        ),
+    ];
+    const HEADING: &str = "Question 9, actions 8, 10, 10A";
+    let reports = book.page.table(HEADING, &["action", "change"])?;
+    reports.has(&["8", "10", "10A"])?;
+    for [action, change] in reports.each() {
+        let mut held = changed(book, change)?;
+        held.extent = book.tracks((0, 0), (410, 18))?;
+        let recovered = book.recover(held)?;
+        ensure!(
+            recovered.number == 0 && book.codes.get(action) == Some(&recovered.action),
+            "{change}: action {:02X}",
+            recovered.action
+        );
+    }
+    let table = book.page.table(HEADING, &["action", "asked", "a no"])?;
+    let found: Vec<&str> = table.each().map(|[_, asked, _]| asked).collect();
+    ensure!(
+        found == points.map(|(asked, _)| asked),
+        "line {}: other points, or in another order",
+        table.line
+    );
+    for ([actions, asked, no], (_, point)) in table.each().zip(points) {
+        let whose = if matches!(point, Next(_) | Interrupted(SeekWithoutCc)) {
+            "10"
+        } else {
+            "8, 10, 10A"
+        };
+        ensure!(actions == whose, "{asked}: asked for {actions}");
+        for action in actions.split(", ") {
+            let base = reports.each().find(|[of, _]| *of == action);
+            let [_, base] = base.ok_or(format!("no report of {action}"))?;
+            let held = changed_on(book, changed(book, base)?, no)?;
+            refused_by_nine(book, held, point)
+                .map_err(|failure| format!("{action}, {asked}: {no}: {failure}"))?;
+        }
+    }
+    Ok(())
+}

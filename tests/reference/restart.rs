@@ -1,0 +1,297 @@
+//! Restart programs and their arguments, assembled from the tables.
+
+use super::book::{Book, Layout, COMMANDS};
+use super::bytes::{big_endian, byte, bytes, hex, value, Checked};
+use super::inputs::worked;
+use super::questions::changed_on;
+use crate::simulator::held::HeldRecovery;
+
+pub fn check(book: &Book) -> Checked {
+    bit_3(book)?;
+    each_action(book)?;
+    worked_restart(book)
+}
+
+/// The listed commands with bit 3 on and off, as the text names them.
+fn bit_3(book: &Book) -> Checked {
+    let (on, off) = (&AFTER_FIVE, &AFTER_FIVE_A);
+    let named = |codes: &[u8]| {
+        let codes: Vec<String> = codes.iter().map(|code| format!("{code:02X}")).collect();
+        let (last, others) = codes.split_last().expect("some codes");
+        format!("{} and {last}", others.join(", "))
+    };
+    let said = format!("{} have it on, {} off", named(on), named(off));
+    ensure!(book.page.says(&said), "bit 3: {said}");
+    let mut listed = Vec::new();
+    for [code, ..] in book.page.table("Commands", &COMMANDS)?.each::<5>() {
+        listed.push(byte(code)?);
+    }
+    listed.sort_unstable();
+    let mut both = [&on[..], off].concat();
+    both.sort_unstable();
+    ensure!(both == listed, "bit 3 is not told of each command");
+    Ok(())
+}
+
+/// The commands behind a cut that make it 5, and 5A.
+const AFTER_FIVE: [u8; 5] = [0x12, 0x1A, 0x1E, 0x1F, 0x31];
+const AFTER_FIVE_A: [u8; 5] = [0x03, 0x06, 0x07, 0x0E, 0x23];
+
+/// What a restart is built from.
+struct Case {
+    action: &'static str,
+    /// Sense bytes 0 to 2.
+    sense: &'static str,
+    /// Of the CSW: behind the CCW that the report is about.
+    address: usize,
+    /// The command to go on with behind a cut, at 0030.
+    next: u8,
+    seek_argument: [u8; 6],
+    mask: Option<u8>,
+}
+
+const RECORD: [u8; 5] = [0x01, 0x04, 0x00, 0x12, 0x77];
+const SECTOR: u8 = 0x05;
+
+fn each_action(book: &Book) -> Checked {
+    let mut cases = Vec::new();
+    for mask in [None, Some(0x00), Some(0xD8)] {
+        let mut add = |action, sense, address, next, cylinder: u8, head: u8| {
+            cases.push(Case {
+                action,
+                sense,
+                address,
+                next,
+                seek_argument: [0, 0, 0, cylinder, 0, head],
+                mask,
+            })
+        };
+        for next in AFTER_FIVE {
+            add("5", "08 00 40", 0x20, next, 0, 0);
+        }
+        for next in AFTER_FIVE_A {
+            add("5A", "08 00 40", 0x20, next, 0, 0);
+        }
+        for head in [0, 3, 18] {
+            add("8", "00 20 00", 0x20, 0x06, 4, head);
+            add("10", "00 04 00", 0x08, 0x06, 4, head);
+            add("10A", "00 04 00", 0x20, 0x06, 4, head);
+        }
+    }
+    for case in &cases {
+        let (program, arguments) = assembled(book, case)?;
+        let what = format!("action {}, mask {:02X?}", case.action, case.mask);
+        let recovered = book.recover(held(book, case)?)?;
+        ensure!(
+            recovered.number == 0 && book.answers.get("restart") == Some(&recovered.what),
+            "{what}: {} and {}",
+            recovered.number,
+            recovered.what
+        );
+        ensure!(
+            book.codes.get(case.action) == Some(&recovered.action),
+            "{what}: action code {:02X}",
+            recovered.action
+        );
+        ensure!(
+            recovered.held.program == program,
+            "{what}: the program is {:02X?}, not {program:02X?}",
+            recovered.held.program
+        );
+        ensure!(
+            recovered.held.restart_arguments == arguments,
+            "{what}: the arguments are {:02X?}, not {arguments:02X?}",
+            recovered.held.restart_arguments
+        );
+    }
+    Ok(())
+}
+
+/// A chain whose CCWs behind the seek and behind the read are TICs to 0030.
+fn held(book: &Book, case: &Case) -> Result<HeldRecovery, String> {
+    let cc = book.flag("CC")?;
+    let ccws = [
+        book.ccw(0x07, 0, cc, 6)?,
+        book.ccw(0x08, 0x30, 0, 0)?,
+        book.ccw(0x03, 0, cc, 1)?,
+        book.ccw(0x06, 0, cc, 4)?,
+        book.ccw(0x08, 0x30, 0, 0)?,
+        book.ccw(0x03, 0, cc, 1)?,
+        book.ccw(case.next, 0, 0, 6)?,
+    ];
+    let mut held = worked(book)?;
+    held.chain = ccws.concat();
+    held.extent = book.tracks((0, 0), (410, 18))?;
+    let id: String = RECORD.iter().map(|byte| format!("{byte:02X}")).collect();
+    let argument: String = case
+        .seek_argument
+        .iter()
+        .map(|byte| format!("{byte:02X}"))
+        .collect();
+    let mut change = format!(
+        "sense 0 = {}; sense 8 = {id}; sense 13 = {SECTOR:02X}; csw = 00 {:06X} 0E 00 0000; \
+         14 = {argument}",
+        case.sense, case.address
+    );
+    if let Some(mask) = case.mask {
+        change += &format!("; 13 = {mask:02X}");
+    }
+    changed_on(book, held, &change)
+}
+
+/// Program and arguments as the tables say.
+fn assembled(book: &Book, case: &Case) -> Result<(Vec<u8>, Vec<u8>), String> {
+    let columns = [
+        "action",
+        "seek argument",
+        "sector",
+        "ID",
+        "CCW to go on with",
+    ];
+    let table = book.page.table("Program of 8, 10 and 10A", &columns)?;
+    table.has(&["5", "5A", "8", "10", "10A"])?;
+    let row = table
+        .each::<5>()
+        .find(|[action, ..]| *action == case.action);
+    let [_, seek, sector, id, go_on] = row.ok_or("no such action")?;
+    let track = value(&case.seek_argument[2..4]) * 19 + value(&case.seek_argument[4..]);
+    let of_place = |place: usize| {
+        [
+            vec![0, 0],
+            big_endian(place / 19, 2),
+            big_endian(place % 19, 2),
+        ]
+        .concat()
+    };
+    let seek = match seek {
+        "00 00 and sense 8 to 11" => [&[0, 0], &RECORD[..4]].concat(),
+        "head 0 of the cylinder behind field 14's" => of_place((track / 19 + 1) * 19),
+        "field 14" => case.seek_argument.to_vec(),
+        "the track behind field 14's" => of_place(track + 1),
+        _ => return Err(format!("seek argument '{seek}'")),
+    };
+    let sector = match sector {
+        "sense 13" => SECTOR,
+        _ => byte(sector)?,
+    };
+    let id = match id {
+        "sense 8 to 12" => RECORD,
+        "zeros" => [0; 5],
+        _ => return Err(format!("ID '{id}'")),
+    };
+    let go_on = match go_on {
+        "behind the current CCW" | "behind the interrupted CCW" => 0x30,
+        "the interrupted CCW" => case.address - 8,
+        _ => return Err(format!("CCW to go on with '{go_on}'")),
+    };
+    let program = program(book, case, go_on)?;
+    Ok((program, arguments(book, case, &seek, sector, &id)?))
+}
+
+/// The name of a command.
+fn command<'a>(book: &'a Book, code: &str) -> Result<&'a str, String> {
+    let table = book.page.table("Commands", &COMMANDS)?;
+    let row = table.each::<5>().find(|row| row[0] == code);
+    Ok(row.ok_or(format!("{code} is no command"))?[1])
+}
+
+fn program(book: &Book, case: &Case, go_on: usize) -> Result<Vec<u8>, String> {
+    let columns = ["step", "built", "code", "address", "flags", "count"];
+    let heading = match case.action {
+        "5" | "5A" => "Program of 5 and 5A",
+        _ => "Program of 8, 10 and 10A",
+    };
+    let mut program = Vec::new();
+    let mut search = None;
+    for [step, built, code, address, flags, count] in book.page.table(heading, &columns)?.each() {
+        let name = match code {
+            "08" if program.is_empty() => "",
+            "08" if address == "the search" => "TIC back",
+            "08" => "TIC on",
+            _ => command(book, code)?,
+        };
+        ensure!(step == name, "{heading}: {step} has the code of '{name}'");
+        let is_built = match built {
+            "always" => true,
+            "where a mask was set" => case.mask.is_some(),
+            "in 5A" => case.action == "5A",
+            _ => return Err(format!("{step}: built '{built}'")),
+        };
+        if !is_built {
+            continue;
+        }
+        let here = 0x1000 + program.len();
+        if step == "search ID equal" {
+            search = Some(here);
+        }
+        let address = match address {
+            "the search" => search.ok_or("no search")?,
+            "the CCW to go on with" => go_on,
+            _ => hex(address)?,
+        };
+        program.extend(book.ccw(byte(code)?, address, byte(flags)?, hex(count)?)?);
+    }
+    program.resize(64, 0);
+    Ok(program)
+}
+
+fn arguments(
+    book: &Book,
+    case: &Case,
+    seek: &[u8],
+    sector: u8,
+    id: &[u8],
+) -> Result<Vec<u8>, String> {
+    let columns = ["offset", "address", "length", "contents"];
+    let table = book.page.table("Arguments of a restart", &columns)?;
+    for [offset, address, ..] in table.each::<4>() {
+        ensure!(
+            hex(address)? == 0x2000 + super::bytes::number(offset)?,
+            "{address} is not offset {offset}"
+        );
+    }
+    let layout = Layout::of(table, "contents")?;
+    ensure!(
+        layout.length() == 16,
+        "{} bytes of arguments",
+        layout.length()
+    );
+    layout.put(&[
+        ("seek argument", value(seek)),
+        ("mask; 00 where none was set", case.mask.unwrap_or(0).into()),
+        ("sector", sector.into()),
+        ("ID", value(id)),
+        ("zeros", 0),
+    ])
+}
+
+/// The bytes of the worked restart are those that the library builds.
+fn worked_restart(book: &Book) -> Checked {
+    let table = book
+        .page
+        .table("Worked restart", &["address", "bytes", "what it is"])?;
+    let mut shown = Vec::new();
+    let mut next = 0x1000;
+    for [address, written, _] in table.each() {
+        if address == "2000" {
+            ensure!(next == 0x1040, "the program ends at {next:04X}");
+            next = 0x2000;
+        }
+        ensure!(hex(address)? == next, "{address} is {next:04X}");
+        let written = bytes(written)?;
+        next += written.len();
+        shown.extend(written);
+    }
+    let before = worked(book)?;
+    let recovered = book.recover(before.clone())?;
+    let built = [
+        &recovered.held.program[..],
+        &recovered.held.restart_arguments,
+    ]
+    .concat();
+    ensure!(shown == built, "the library builds {built:02X?}");
+    let mut storage = before.storage;
+    storage[2] ^= 1;
+    ensure!(recovered.held.storage == storage, "another byte is mended");
+    Ok(())
+}
