@@ -19,6 +19,7 @@ mod paths;
 mod picture;
 mod points;
 mod rt;
+mod shape;
 mod tokens;
 #[allow(dead_code)]
 #[path = "../pages/unrun.rs"]
@@ -33,13 +34,14 @@ use std::process::ExitCode;
 
 type Check = fn(&Repository) -> Vec<Place>;
 
-const CHECKS: [(&str, Check); 12] = [
+const CHECKS: [(&str, Check); 13] = [
     ("layers", layers::check),
     ("picture", picture::check),
     ("imports", imports::check),
     ("unused", unused::check),
     ("order", order::check),
     ("width", width::check),
+    ("shape", shape::check),
     ("points", points::check),
     ("comments", comments::check),
     ("links", links::check),

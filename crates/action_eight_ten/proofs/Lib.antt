@@ -1,3 +1,2 @@
--- What the proofs of home's functions cite.
 pub mod Tracks
 pub mod Restarts

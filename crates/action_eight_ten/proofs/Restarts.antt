@@ -1,19 +1,16 @@
 -- Actions 8, 10 and 10A, from the tests that the code makes.
---   seek-outside, home-built       the restart at a home address
+--   home-built                     the restart at a home address
 --   last-seek .. next-chain        an interrupted seek, by the CCW that comes next
 --   no-track .. with-both          by the user's track and the interrupted CCW
 --   eight-no-track .. ten-on       the same for each action
 use Prim.Native.Nat.{ℕ, _-_}
 use mathlib.Core.Path.{_≡_, refl, ap, sym, _∙_}
-use mathlib.Core.Bool.{Bool, true, false, _&&_}
+use mathlib.Core.Bool.{true, false}
 use mathlib.Core.List.{List, []}
 use Rattle.base.specs.Choice.{pick, opt}
 use Rattle.base.proofs.Choice.{pick-true, pick-false}
 use Rattle.questions.specs.declared.Question.the-variants as Question
 use Rattle.address.specs.declared.Address.{Address}
-use Rattle.address.specs.declared.Extent.{Extent}
-use Rattle.address.specs.Order.{lastCylinder, onPack}
-use Rattle.address.specs.Within.{within}
 use Rattle.channel.specs.declared.Ccw.{Ccw}
 use Rattle.channel.specs.declared.Csw.{Csw}
 use Rattle.channel.specs.declared.Location.{Location}
@@ -25,73 +22,79 @@ use Rattle.channel.specs.Ccw.{chainsCommand, resolve}
 use Rattle.drive.specs.declared.FileMask.{FileMask}
 use Rattle.drive.specs.Command.{commandOf}
 use Rattle.restart.specs.Restart.{ccwBytes, programOf, restartArgumentsOf}
+use Rattle.recovery.specs.Correct.{mend}
 use Rattle.recovery.specs.Report.{Report}
 use Rattle.recovery.specs.Recovery as Recovery
 use Rattle.recovery.specs.Recovery.{Given, seekAllowed, onlyChain, onNext, isSeek, nextCylinder, nextTrack}
+use Rattle.report.specs.declared.User.the-variants.{Track, Missing}
+use Rattle.report.specs.declared.Told.{Told}
+use Rattle.correction.specs.declared.Correction.{Correction}
+use Rattle.correction.specs.Retraced.{mended, nothing}
 use Rattle.recovered.specs.declared.Kind.{Kind}
 use Rattle.recovered.specs.declared.Kind.the-variants.{Eight, Ten, TenA}
-use Rattle.recovered.specs.declared.Recovered.{Recovered}
 use Rattle.recovered.specs.declared.Recovered.the-variants as Recovered
-use Rattle.recovered.specs.Applied.{applied, givenOf, reportWith}
-use Rattle.action_eight_ten.specs.declared.User.{User}
-use Rattle.action_eight_ten.specs.declared.User.the-variants.{Track, Missing}
-use Rattle.action_eight_ten.specs.User.{ActsUser, Interrupts, Answers, Homes, SeekRestarts}
+use Rattle.recovered.specs.Applied.{applied}
+use Rattle.decision.specs.declared.Orientation.{Orientation}
+use Rattle.decision.specs.declared.Orientation.the-variants.{Home}
+use Rattle.decision.specs.declared.RestartPlan.{RestartPlan}
+use Rattle.decision.specs.declared.Decision.{Decision}
+use Rattle.decision.specs.declared.Decision.the-variants.{Answers, Restarts}
+use Rattle.decision.specs.Decision.{orientationOf, programBy, argumentsBy, done, bounded}
+use Rattle.recovered.specs.Allowed.{allowed}
+use Rattle.decision.proofs.Bounded.{by-seek, applied-pick}
+use Rattle.action_eight_ten.specs.EightTen.{Acts, Interrupts, DecidesBy, Homes, SeekRestarts}
+
+-- the answer where report and chain do not agree
+abbrev refusal : Decision
+refusal = Answers (Recovered.Refused Question.Agreement)
 
 -- ---- at a home address
 
-abbrev allowed : Extent → Address → Bool
-allowed x a = onPack lastCylinder a && within x a
+-- its areas
+from-home : (o : Orientation) (track : Address) (m : FileMask) (to : ℕ) → o ≡ Home
+    → (programBy o m to ≡ programOf m (ccwBytes 0x1a 0 0x50 5) to) × (argumentsBy o track m 0 0 ≡ restartArgumentsOf track m 0 [])
+unfolding programBy argumentsBy
+from-home o track m to e = rw e (refl, refl)
 
-module _ (mask : FileMask) (x : Extent) (track : Address) (to : ℕ) (kind : Kind) (p a : List ℕ) where
-  pub seek-outside : allowed x track ≡ false → Homes mask x track to kind p a Recovered.ActionTwo p a
-  unfolding Recovery.homeRestart seekAllowed applied
-  seek-outside h = λ k chain csw e rows sense first seek tries st. sym (ap (λ q. applied q st p a) (pick-false _ _ h))
+module _ (mask : FileMask) (track : Address) (to : ℕ) (kind : Kind) where
+  abbrev planned : RestartPlan
+  planned = record { kind = kind; track = track; mask = mask; sector = 0; number = 0; to = to }
 
-  pub home-built : (p′ a′ : List ℕ) → allowed x track ≡ true → p′ ≡ programOf mask (ccwBytes 0x1a 0 0x50 5) to → a′ ≡ restartArgumentsOf track mask 0 []
-      → Homes mask x track to kind p a (Recovered.Restart kind) p′ a′
-  unfolding Recovery.homeRestart seekAllowed applied
-  home-built p′ a′ h u v = λ k chain csw e rows sense first seek tries st.
-      rw (u, v, ← e) (sym (ap (λ q. applied q st p a) (pick-true _ _ h)))
+  pub home-built : (n : Correction) → n ≡ nothing → orientationOf kind ≡ Home → Homes mask track to kind (Restarts planned n)
+  unfolding Recovery.homeRestart seekAllowed applied mended mend
+  home-built n e h = λ k chain csw i rows x r st p a u v.
+      let areas = from-home (orientationOf kind) track mask to h in
+      rw (e, by-seek x planned nothing st p a, areas .0, areas .1, ← i, v) (applied-pick (allowed x track) (Recovery.restarts k _ _ st) Recovery.actionTwo st p a)
 
 -- ---- an interrupted seek
 
-module _ (chain : List ℕ) (csw : Csw) (mask : FileMask) (x : Extent) (track : Address) (c : Ccw) (p a : List ℕ) where
-  pub last-seek : chainsCommand c ≡ false → SeekRestarts chain csw mask x track c p a (Recovered.Refused Question.Agreement) p a
-  unfolding Recovery.seekRestart applied
-  last-seek h = λ rows sense first seek tries st. sym (ap (λ q. applied q st p a) (pick-false _ _ h))
+module _ (chain : List ℕ) (csw : Csw) (mask : FileMask) (track : Address) (c : Ccw) where
+  pub last-seek : chainsCommand c ≡ false → SeekRestarts chain csw mask track c refusal
+  unfolding Recovery.seekRestart applied done bounded
+  last-seek h = λ rows x r st p a u v. sym (ap (λ q. applied q st p a) (pick-false _ _ h))
 
   module _ (h : chainsCommand c ≡ true) where
     abbrev behind : Fetched
     behind = resolve (onlyChain chain) (Chain (csw .address - 8)) (Chain (csw .address))
 
     -- by the CCW that comes next
-    by-next : (r : Recovered) (p′ a′ : List ℕ) (f : Fetched) → f ≡ behind
-        → Answers (λ g q st. onNext f (Recovery.refused Question.Agreement) (λ to d. Recovery.homeRestart g q st Recovery.ten track to)) chain csw mask x p a r p′ a′
-        → SeekRestarts chain csw mask x track c p a r p′ a′
+    by-next : (d : Decision) (f : Fetched) → f ≡ behind
+        → DecidesBy (λ g q st. onNext f (Recovery.refused Question.Agreement) (λ to e. Recovery.homeRestart g q st Recovery.ten track to)) chain csw mask d
+        → SeekRestarts chain csw mask track c d
     unfolding Recovery.seekRestart
-    by-next r p′ a′ f e k = λ rows sense first seek tries st.
-        k rows sense first seek tries st
-        ∙ ap
-        (λ v.
-        applied
-        (onNext v (Recovery.refused Question.Agreement)
-        (λ to d. Recovery.homeRestart (givenOf rows chain x) (reportWith sense csw first mask seek tries) st Recovery.ten track to))
-        st p a)
-        e
-        ∙ sym (ap (λ v. applied v st p a) (pick-true _ _ h))
+    by-next d f e k = λ rows x r st p a u v. k rows x r st p a u v ∙ rw (e, u) (sym (ap (λ q. applied q st p a) (pick-true _ _ h)))
 
-    pub next-broken : (y : Location) → Broken y ≡ behind → SeekRestarts chain csw mask x track c p a (Recovered.Refused Question.Agreement) p a
-    unfolding onNext applied
-    next-broken y e = by-next _ p a (Broken y) e (λ rows sense first seek tries st. refl)
+    pub next-broken : (y : Location) → Broken y ≡ behind → SeekRestarts chain csw mask track c refusal
+    unfolding onNext applied done bounded
+    next-broken y e = by-next refusal (Broken y) e (λ rows x r st p a u v. refl)
 
-    pub next-restart : (b : ℕ) (d : Ccw) → Got (Restart b) d ≡ behind → SeekRestarts chain csw mask x track c p a (Recovered.Refused Question.Agreement) p a
-    unfolding onNext applied
-    next-restart b d e = by-next _ p a (Got (Restart b) d) e (λ rows sense first seek tries st. refl)
+    pub next-restart : (b : ℕ) (d : Ccw) → Got (Restart b) d ≡ behind → SeekRestarts chain csw mask track c refusal
+    unfolding onNext applied done bounded
+    next-restart b d e = by-next refusal (Got (Restart b) d) e (λ rows x r st p a u v. refl)
 
-    pub next-chain : (to : ℕ) (d : Ccw) (r : Recovered) (p′ a′ : List ℕ) → Got (Chain to) d ≡ behind → Homes mask x track to Ten p a r p′ a′
-        → SeekRestarts chain csw mask x track c p a r p′ a′
+    pub next-chain : (to : ℕ) (e : Ccw) (d : Decision) → Got (Chain to) e ≡ behind → Homes mask track to Ten d → SeekRestarts chain csw mask track c d
     unfolding onNext
-    next-chain to d r p′ a′ e k = by-next r p′ a′ (Got (Chain to) d) e (k Recovery.ten chain csw refl)
+    next-chain to e d q k = by-next d (Got (Chain to) e) q (k Recovery.ten chain csw refl)
 
 -- ---- the user's track and the interrupted CCW
 
@@ -99,74 +102,68 @@ module _ (chain : List ℕ) (csw : Csw) (mask : FileMask) (x : Extent) (track : 
 abbrev Follows : Type 0
 Follows = Given → Report → List ℕ → Address → Ccw → Recovery.Recovery
 
-module _ (f : Follows) (chain : List ℕ) (csw : Csw) (mask : FileMask) (x : Extent) (user : User) (p a : List ℕ) where
-  abbrev Whole : Recovered → (p′ a′ : List ℕ) → Type 0
-  Whole r p′ a′ = ActsUser (λ g q st. Recovery.withTrack g q st (f g q st)) chain csw mask x user p a r p′ a′
+module _ (f : Follows) (chain : List ℕ) (t : Told) where
+  abbrev Whole : Decision → Type 0
+  Whole d = Acts (λ g q st. Recovery.withTrack g q st (f g q st)) chain t d
 
-  no-track : user ≡ Missing → Whole (Recovered.Refused Question.Agreement) p a
-  unfolding Recovery.withTrack opt applied
-  no-track e = λ rows sense first seek tries st u. rw (u, e)
+  no-track : t .user ≡ Missing → Whole refusal
+  unfolding Recovery.withTrack opt applied done bounded
+  no-track e = λ size rows x r st p a told n. rw (told .user, e)
 
-  module _ (t : Address) (e : user ≡ Track t) where
-    no-interrupted : Interrupts chain csw Past → Whole (Recovered.Refused Question.Agreement) p a
-    unfolding Recovery.withTrack opt applied
-    no-interrupted i = λ rows sense first seek tries st u. rw (u, e, ← i rows x sense first mask seek tries st)
+  module _ (track : Address) (e : t .user ≡ Track track) where
+    no-interrupted : Interrupts chain (t .csw) Past → Whole refusal
+    unfolding Recovery.withTrack opt applied done bounded
+    no-interrupted i = λ size rows x r st p a told n. rw (told .user, e, ← i rows x r st (told .csw))
 
-    with-both : (c : Ccw) (r : Recovered) (p′ a′ : List ℕ) → Interrupts chain csw (Holds c)
-        → Answers (λ g q st. f g q st t c) chain csw mask x p a r p′ a′ → Whole r p′ a′
+    with-both : (c : Ccw) (d : Decision) → Interrupts chain (t .csw) (Holds c) → DecidesBy (λ g q st. f g q st track c) chain (t .csw) (t .mask) d → Whole d
     unfolding Recovery.withTrack opt
-    with-both c r p′ a′ i k = λ rows sense first seek tries st u. rw (u, e, ← i rows x sense first mask seek tries st) (k rows sense first seek tries st)
+    with-both c d i k = λ size rows x r st p a told n.
+        rw (told .user, e, ← i rows x r st (told .csw)) (k rows x r st p a (told .csw) (told .mask))
 
 -- ---- the actions
 
 abbrev eightOf : Follows
-eightOf g q st t c = Recovery.homeRestart g q st Recovery.eight (nextCylinder t) (q .csw .address - 8)
+eightOf g q st a c = Recovery.homeRestart g q st Recovery.eight (nextCylinder a) (q .csw .address - 8)
 
 abbrev tenOf : Follows
-tenOf g q st t c = pick (isSeek (commandOf (c .command))) (Recovery.seekRestart g q st t c) (Recovery.homeRestart g q st Recovery.tenA (nextTrack t) (q .csw .address - 8))
+tenOf g q st a c = pick (isSeek (commandOf (c .command))) (Recovery.seekRestart g q st a c) (Recovery.homeRestart g q st Recovery.tenA (nextTrack a) (q .csw .address - 8))
 
-module _ (chain : List ℕ) (csw : Csw) (mask : FileMask) (x : Extent) (user : User) (p a : List ℕ) where
-  pub eight-no-track : user ≡ Missing → ActsUser Recovery.actionEight chain csw mask x user p a (Recovered.Refused Question.Agreement) p a
+module _ (chain : List ℕ) (t : Told) where
+  pub eight-no-track : t .user ≡ Missing → Acts Recovery.actionEight chain t refusal
   unfolding Recovery.actionEight
-  eight-no-track e = no-track eightOf chain csw mask x user p a e
+  eight-no-track e = no-track eightOf chain t e
 
-  pub ten-no-track : user ≡ Missing → ActsUser Recovery.actionTen chain csw mask x user p a (Recovered.Refused Question.Agreement) p a
+  pub ten-no-track : t .user ≡ Missing → Acts Recovery.actionTen chain t refusal
   unfolding Recovery.actionTen
-  ten-no-track e = no-track tenOf chain csw mask x user p a e
+  ten-no-track e = no-track tenOf chain t e
 
-  module _ (t : Address) (e : user ≡ Track t) where
-    pub eight-no-ccw : Interrupts chain csw Past → ActsUser Recovery.actionEight chain csw mask x user p a (Recovered.Refused Question.Agreement) p a
+  module _ (user : Address) (e : t .user ≡ Track user) where
+    pub eight-no-ccw : Interrupts chain (t .csw) Past → Acts Recovery.actionEight chain t refusal
     unfolding Recovery.actionEight
-    eight-no-ccw i = no-interrupted eightOf chain csw mask x user p a t e i
+    eight-no-ccw i = no-interrupted eightOf chain t user e i
 
-    pub ten-no-ccw : Interrupts chain csw Past → ActsUser Recovery.actionTen chain csw mask x user p a (Recovered.Refused Question.Agreement) p a
+    pub ten-no-ccw : Interrupts chain (t .csw) Past → Acts Recovery.actionTen chain t refusal
     unfolding Recovery.actionTen
-    ten-no-ccw i = no-interrupted tenOf chain csw mask x user p a t e i
+    ten-no-ccw i = no-interrupted tenOf chain t user e i
 
-    module _ (c : Ccw) (i : Interrupts chain csw (Holds c)) (r : Recovered) (p′ a′ : List ℕ) where
-      pub eight-goes : (track : Address) → track ≡ nextCylinder t → Homes mask x track (csw .address - 8) Eight p a r p′ a′
-          → ActsUser Recovery.actionEight chain csw mask x user p a r p′ a′
-      unfolding Recovery.actionEight
+    module _ (c : Ccw) (i : Interrupts chain (t .csw) (Holds c)) (d : Decision) where
+      pub eight-goes : (track : Address) → track ≡ nextCylinder user → Homes (t .mask) track (t .csw .address - 8) Eight d → Acts Recovery.actionEight chain t d
+      unfolding Recovery.actionEight Recovery.homeRestart
       eight-goes track n k =
-          with-both eightOf chain csw mask x user p a t e c r p′ a′ i
-          (λ rows sense first seek tries st.
-          k Recovery.eight chain csw refl rows sense first seek tries st
-          ∙ ap (λ b. applied (Recovery.homeRestart (givenOf rows chain x) (reportWith sense csw first mask seek tries) st Recovery.eight b (csw .address - 8)) st p a) n)
+          with-both eightOf chain t user e c d i
+          (λ rows x r st p a u v. rw (u, ← n) (k Recovery.eight chain (t .csw) refl rows x r st p a u v))
 
-      by-command : Answers (λ g q st. tenOf g q st t c) chain csw mask x p a r p′ a′ → ActsUser Recovery.actionTen chain csw mask x user p a r p′ a′
+      by-command : DecidesBy (λ g q st. tenOf g q st user c) chain (t .csw) (t .mask) d → Acts Recovery.actionTen chain t d
       unfolding Recovery.actionTen
-      by-command k = with-both tenOf chain csw mask x user p a t e c r p′ a′ i k
+      by-command k = with-both tenOf chain t user e c d i k
 
-      pub ten-seek : isSeek (commandOf (c .command)) ≡ true → SeekRestarts chain csw mask x t c p a r p′ a′
-          → ActsUser Recovery.actionTen chain csw mask x user p a r p′ a′
-      ten-seek h k =
-          by-command (λ rows sense first seek tries st. k rows sense first seek tries st ∙ sym (ap (λ q. applied q st p a) (pick-true _ _ h)))
+      pub ten-seek : isSeek (commandOf (c .command)) ≡ true → SeekRestarts chain (t .csw) (t .mask) user c d → Acts Recovery.actionTen chain t d
+      ten-seek h k = by-command (λ rows x r st p a u v. k rows x r st p a u v ∙ sym (ap (λ q. applied q st p a) (pick-true _ _ h)))
 
-      pub ten-on : (track : Address) → isSeek (commandOf (c .command)) ≡ false → track ≡ nextTrack t → Homes mask x track (csw .address - 8) TenA p a r p′ a′
-          → ActsUser Recovery.actionTen chain csw mask x user p a r p′ a′
+      pub ten-on : (track : Address) → isSeek (commandOf (c .command)) ≡ false → track ≡ nextTrack user → Homes (t .mask) track (t .csw .address - 8) TenA d
+          → Acts Recovery.actionTen chain t d
+      unfolding Recovery.homeRestart
       ten-on track h n k =
           by-command
-          (λ rows sense first seek tries st.
-          k Recovery.tenA chain csw refl rows sense first seek tries st
-          ∙ ap (λ b. applied (Recovery.homeRestart (givenOf rows chain x) (reportWith sense csw first mask seek tries) st Recovery.tenA b (csw .address - 8)) st p a) n
-          ∙ sym (ap (λ q. applied q st p a) (pick-false _ _ h)))
+          (λ rows x r st p a u v.
+          rw (u, ← n) (k Recovery.tenA chain (t .csw) refl rows x r st p a u v) ∙ sym (ap (λ q. applied q st p a) (pick-false _ _ h)))

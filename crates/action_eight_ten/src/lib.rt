@@ -1,48 +1,29 @@
 // Actions 8, 10 and 10A: a restart that begins at the home address of a track.
 use address::Address;
-use address::Extent;
 use channel::Ccw;
 use channel::Csw;
 use channel::Fetched;
 use channel::Location;
 use channel::Slot;
+use decision::Decision;
+use decision::RestartPlan;
 use drive::Command;
 use drive::FileMask;
 use questions::Question;
 use recovered::Kind;
 use recovered::Recovered;
+use report::Told;
+use report::User;
 ghost use mathlib.Core.Path.{_≡_};
 ghost use mathlib.Core.Bool.{true};
-ghost use Prim.Native.Nat.{_+_, _<_, _≤_};
+ghost use Prim.Native.Nat.{_<_, _≤_};
 ghost use lib.ListN.{length};
 ghost use Rattle.address.specs.Order.{lastCylinder, onPack};
 ghost use Rattle.recovery.specs.Recovery as Recovery;
-ghost use Rattle.action_eight_ten.specs.User.{UserOnPack, RestartReady, ActsUser, UserAt, Interrupts, Behind, Homes, SeekRestarts};
-
-// The track of the user's seek argument, if the report has one that names a track of the pack.
-pub enum User {
-    Track(Address),
-    Missing,
-}
-
-// The user's seek argument, six bytes of a report.
-pub fn user_track(report: &[u8], at: usize) -> User
-    requires { ⌜ at + 6 ≤ length (now report) ⌝ }
-    ensures { λ r. ⌜ UserAt (now (report .entry)) at r ⌝ }
-    ensures { λ r. ⌜ UserOnPack r ⌝ }
-{
-    if base::be16(report, at) != 0 {
-        return User::Missing;
-    }
-    let a = Address {
-        cylinder: base::be16(report, at + 2),
-        head: base::be16(report, at + 4),
-    };
-    if !a.on_pack(address::LAST_CYLINDER) {
-        return User::Missing;
-    }
-    User::Track(a)
-}
+ghost use Rattle.report.specs.Told.{ToldLow};
+ghost use Rattle.decision.specs.declared.Orientation.the-variants.{Home};
+ghost use Rattle.decision.specs.Decision.{orientationOf, GoesLow};
+ghost use Rattle.action_eight_ten.specs.EightTen.{Acts, Interrupts, Behind, Homes, SeekRestarts};
 
 // Whether a command is a seek.
 fn is_seek(k: Command) -> bool
@@ -96,114 +77,82 @@ fn interrupted(chain: &[u8], csw: Csw) -> Slot
     Slot::Holds(c)
 }
 
-// The restart at the home address of track a, which goes on with the chain's CCW at `to`, if its seek is allowed.
-fn home(
-    program: &mut [u8],
-    restart_arguments: &mut [u8],
-    mask: FileMask,
-    x: Extent,
-    a: Address,
-    to: usize,
-    kind: Kind,
-) -> Recovered
-    requires { ⌜ length (now program) ≡ 64 ⌝ }
-    requires { ⌜ length (now «restart_arguments») ≡ 16 ⌝ }
+// The restart at the home address of track a, which goes on with the chain's CCW at `to`.
+fn home(mask: FileMask, a: Address, to: usize, kind: Kind) -> Decision
     requires { ⌜ to < 65536 ⌝ }
-    ensures { λ r.
-        ⌜ Homes mask x a to kind (now (program .entry)) (now («restart_arguments» .entry)) r
-        (now (program .exit)) (now («restart_arguments» .exit)) ⌝ }
+    requires { ⌜ orientationOf kind ≡ Home ⌝ }
+    ensures { λ r. ⌜ Homes mask a to kind r ⌝ }
+    ensures { λ r. ⌜ GoesLow r ⌝ }
 {
-    if !recovered::seek_allowed(x, a) {
-        return Recovered::ActionTwo;
-    }
-    restart_areas::home_program(program, mask, to);
-    restart_areas::home_arguments(restart_arguments, a, mask);
-    Recovered::Restart(kind)
+    let plan = RestartPlan {
+        kind: kind,
+        track: a,
+        mask: mask,
+        sector: 0,
+        number: 0,
+        to: to,
+    };
+    Decision::Restarts(plan, correction::nothing())
 }
 
 // Action 8: the next cylinder, head 0; the interrupted CCW again.
-pub fn eight(
-    chain: &[u8],
-    program: &mut [u8],
-    restart_arguments: &mut [u8],
-    csw: Csw,
-    mask: FileMask,
-    x: Extent,
-    user: User,
-) -> Recovered
-    requires { ⌜ RestartReady (now chain) (now program) (now «restart_arguments») csw ⌝ }
-    requires { ⌜ UserOnPack user ⌝ }
-    ensures { λ r.
-        ⌜ ActsUser Recovery.actionEight (now (chain .entry)) csw mask x user (now (program .entry)) (now («restart_arguments» .entry)) r
-        (now (program .exit)) (now («restart_arguments» .exit)) ⌝ }
+pub fn eight(chain: &[u8], t: Told) -> Decision
+    requires { ⌜ length (now chain) ≤ 2048 ⌝ }
+    requires { ⌜ ToldLow t ⌝ }
+    ensures { λ r. ⌜ Acts Recovery.actionEight (now (chain .entry)) t r ⌝ }
+    ensures { λ r. ⌜ GoesLow r ⌝ }
 {
+    let csw = t.csw;
+    let mask = t.mask;
+    let user = t.user;
     let User::Track(a) = user else {
-        return Recovered::Refused(Question::Agreement);
+        return Decision::Answers(Recovered::Refused(Question::Agreement));
     };
     let Slot::Holds(_) = interrupted(chain, csw) else {
-        return Recovered::Refused(Question::Agreement);
+        return Decision::Answers(Recovered::Refused(Question::Agreement));
     };
-    let track = next_cylinder(a);
-    let to = csw.address - 8;
-    home(program, restart_arguments, mask, x, track, to, Kind::Eight)
+    home(mask, next_cylinder(a), csw.address - 8, Kind::Eight)
 }
 
 // Action 10 for an interrupted seek, the CCW c: the user's track, then the CCW behind the seek.
-fn seek_restart(
-    chain: &[u8],
-    program: &mut [u8],
-    restart_arguments: &mut [u8],
-    csw: Csw,
-    mask: FileMask,
-    x: Extent,
-    a: Address,
-    c: Ccw,
-) -> Recovered
-    requires { ⌜ RestartReady (now chain) (now program) (now «restart_arguments») csw ⌝ }
+fn seek_restart(chain: &[u8], csw: Csw, mask: FileMask, a: Address, c: Ccw) -> Decision
+    requires { ⌜ length (now chain) ≤ 2048 ⌝ }
+    requires { ⌜ csw .address < 16777216 ⌝ }
     requires { ⌜ 8 ≤ csw .address ⌝ }
-    ensures { λ r.
-        ⌜ SeekRestarts (now (chain .entry)) csw mask x a c (now (program .entry)) (now («restart_arguments» .entry)) r
-        (now (program .exit)) (now («restart_arguments» .exit)) ⌝ }
+    ensures { λ r. ⌜ SeekRestarts (now (chain .entry)) csw mask a c r ⌝ }
+    ensures { λ r. ⌜ GoesLow r ⌝ }
 {
     if !c.chains_command() {
-        return Recovered::Refused(Question::Agreement);
+        return Decision::Answers(Recovered::Refused(Question::Agreement));
     }
     let last = Location::Chain(csw.address - 8);
     match channel::resolve(chain, &chain[..0], last, Location::Chain(csw.address)) {
-        Fetched::Broken(_) => Recovered::Refused(Question::Agreement),
+        Fetched::Broken(_) => Decision::Answers(Recovered::Refused(Question::Agreement)),
         Fetched::Got(l, d) => match l {
-            Location::Restart(_) => Recovered::Refused(Question::Agreement),
-            Location::Chain(to) => home(program, restart_arguments, mask, x, a, to, Kind::Ten),
+            Location::Restart(_) => Decision::Answers(Recovered::Refused(Question::Agreement)),
+            Location::Chain(to) => home(mask, a, to, Kind::Ten),
         },
     }
 }
 
 // Action 10; for another CCW than a seek 10A: the next track, and the interrupted CCW again.
-pub fn ten(
-    chain: &[u8],
-    program: &mut [u8],
-    restart_arguments: &mut [u8],
-    csw: Csw,
-    mask: FileMask,
-    x: Extent,
-    user: User,
-) -> Recovered
-    requires { ⌜ RestartReady (now chain) (now program) (now «restart_arguments») csw ⌝ }
-    requires { ⌜ UserOnPack user ⌝ }
-    ensures { λ r.
-        ⌜ ActsUser Recovery.actionTen (now (chain .entry)) csw mask x user (now (program .entry)) (now («restart_arguments» .entry)) r
-        (now (program .exit)) (now («restart_arguments» .exit)) ⌝ }
+pub fn ten(chain: &[u8], t: Told) -> Decision
+    requires { ⌜ length (now chain) ≤ 2048 ⌝ }
+    requires { ⌜ ToldLow t ⌝ }
+    ensures { λ r. ⌜ Acts Recovery.actionTen (now (chain .entry)) t r ⌝ }
+    ensures { λ r. ⌜ GoesLow r ⌝ }
 {
+    let csw = t.csw;
+    let mask = t.mask;
+    let user = t.user;
     let User::Track(a) = user else {
-        return Recovered::Refused(Question::Agreement);
+        return Decision::Answers(Recovered::Refused(Question::Agreement));
     };
     let Slot::Holds(c) = interrupted(chain, csw) else {
-        return Recovered::Refused(Question::Agreement);
+        return Decision::Answers(Recovered::Refused(Question::Agreement));
     };
     if is_seek(drive::command_of(c.command)) {
-        return seek_restart(chain, program, restart_arguments, csw, mask, x, a, c);
+        return seek_restart(chain, csw, mask, a, c);
     }
-    let track = next_track(a);
-    let to = csw.address - 8;
-    home(program, restart_arguments, mask, x, track, to, Kind::TenA)
+    home(mask, next_track(a), csw.address - 8, Kind::TenA)
 }

@@ -1,2 +1,2 @@
-pub mod Builds
+pub mod Searched
 pub mod Fives

@@ -1,272 +1,182 @@
-// Action 5: the correction of a correctable data check, and the restart of the chain behind it.
-use address::Extent;
-use base::FromEnd;
-use base::FromFront;
+// Action 5: what is decided by the report of a correctable data check.
 use channel::Ccw;
-use channel::Csw;
 use channel::Fetched;
 use channel::Location;
 use channel::Slot;
+use correction::Correction;
+use correction::End;
 use correction::Retraced;
 use correction::ThreeStayed;
-use drive::FileMask;
+use decision::Decision;
+use decision::RestartPlan;
 use questions::Question;
 use recovered::Kind;
 use recovered::Recovered;
+use report::Sense;
+use report::Told;
 ghost use mathlib.Core.Path.{_≡_};
-ghost use mathlib.Core.Bool.{true};
+ghost use mathlib.Core.Bool.{_||_, not};
 ghost use mathlib.Core.List.{[]};
-ghost use Prim.Native.Nat.{_<_};
+ghost use Prim.Native.Nat.{_<_, _≤_};
 ghost use lib.ListN.{length};
 ghost use Rattle.channel.specs.declared.Location.the-variants.{Chain};
+ghost use Rattle.channel.specs.Ccw.{chainsCommand};
 ghost use Rattle.channel.specs.Fetch.{InBytes, Inside};
 ghost use Rattle.recovery.specs.Recovery as Recovery;
-ghost use Rattle.recovered.specs.Applied.{with};
-ghost use Rattle.action_five.specs.Five.{RecoveryAreas, Acts, correctedAt, Builds, Concludes, Agrees, ActsRetraced};
+ghost use Rattle.decision.specs.Decision.{Decides, GoesLow};
+ghost use Rattle.recovered.specs.Sensible.{InBounds};
+ghost use Rattle.action_five.specs.Five.{correctionOf, searchKind, SearchRestarts, GoesOn, AfterWalk, WalkedTo, DecidesRetraced};
 
-// The pattern out of the bytes that stayed.
-fn correct(storage: &mut [u8], sense: &[u8], stayed: ThreeStayed)
-    requires { ⌜ length (now sense) ≡ 24 ⌝ }
-    ensures { λ _. ⌜ now (storage .exit) ≡ correctedAt (now (sense .entry)) stayed (now (storage .entry)) ⌝ }
+// The pattern of the sense bytes, for the bytes that stayed.
+fn pattern(s: Sense, stayed: ThreeStayed) -> Correction
+    ensures { λ r. ⌜ r ≡ correctionOf s stayed ⌝ }
 {
-    correction::mend(storage, stayed, sense[20], sense[21], sense[22]);
+    Correction {
+        stayed: stayed,
+        pattern0: s.pattern0,
+        pattern1: s.pattern1,
+        pattern2: s.pattern2,
+    }
 }
 
-// The restart that goes on with the CCW d at an address of the chain, if its seek is allowed.
-fn build(
-    storage: &mut [u8],
-    program: &mut [u8],
-    restart_arguments: &mut [u8],
-    sense: &[u8],
-    mask: FileMask,
-    x: Extent,
-    stayed: ThreeStayed,
-    to: usize,
-    d: Ccw,
-) -> Recovered
-    requires { ⌜ length (now sense) ≡ 24 ⌝ }
-    requires { ⌜ length (now program) ≡ 64 ⌝ }
-    requires { ⌜ length (now «restart_arguments») ≡ 16 ⌝ }
+// Action 5, or 5A, by the CCW that the restart goes on with.
+fn search_kind(d: Ccw) -> Kind
+    ensures { λ r. ⌜ r ≡ searchKind d ⌝ }
+{
+    if base::bit(d.command, 3) {
+        return Kind::Five;
+    }
+    Kind::FiveA
+}
+
+// The restart that goes on with the CCW d at an address of the chain.
+fn search_restart(t: Told, stayed: ThreeStayed, to: usize, d: Ccw) -> Decision
     requires { ⌜ to < 65536 ⌝ }
-    ensures { λ r.
-        let after = with r (now (storage .exit)) (now (program .exit)) (now («restart_arguments» .exit)) in
-        ⌜ Builds (now (sense .entry)) mask x stayed to d (now (storage .entry)) (now (program .entry)) (now («restart_arguments» .entry)) after ⌝ }
+    ensures { λ r. ⌜ SearchRestarts t stayed to d r ⌝ }
+    ensures { λ r. ⌜ GoesLow r ⌝ }
 {
-    let track = data_check::cut_track(sense);
-    if !recovered::seek_allowed(x, track) {
-        return Recovered::ActionTwo;
-    }
-    let counts = !base::bit(d.command, 3);
-    correct(storage, sense, stayed);
-    restart_areas::search_program(program, mask, counts, to);
-    restart_areas::search_arguments(restart_arguments, track, mask, sense[13], sense[12]);
-    if counts {
-        return Recovered::Restart(Kind::FiveA);
-    }
-    Recovered::Restart(Kind::Five)
+    let s = t.sense;
+    let mask = t.mask;
+    let track = s.track;
+    let plan = RestartPlan {
+        kind: search_kind(d),
+        track: track,
+        mask: mask,
+        sector: s.sector,
+        number: s.number,
+        to: to,
+    };
+    Decision::Restarts(plan, pattern(s, stayed))
 }
 
-// What follows where the data chain ended at the CCW c at l, and the CSW agrees.
-fn conclude(
-    chain: &[u8],
-    storage: &mut [u8],
-    program: &mut [u8],
-    restart_arguments: &mut [u8],
-    sense: &[u8],
-    csw: Csw,
-    mask: FileMask,
-    x: Extent,
-    stayed: ThreeStayed,
-    l: Location,
-    c: Ccw,
-    wrong: bool,
-) -> Recovered
-    requires { ⌜ RecoveryAreas (now chain) (now sense) (now program) (now «restart_arguments») ⌝ }
+// The restart that goes on behind the CCW at l.
+fn go_on(chain: &[u8], t: Told, stayed: ThreeStayed, l: Location) -> Decision
+    requires { ⌜ length (now chain) ≤ 2048 ⌝ }
     requires { ⌜ Inside (now chain) [] l ⌝ }
-    ensures { λ r.
-        let after = with r (now (storage .exit)) (now (program .exit)) (now («restart_arguments» .exit)) in
-        ⌜ Concludes (now (chain .entry)) (now (sense .entry)) csw mask x stayed l c wrong
-        (now (storage .entry)) (now (program .entry)) (now («restart_arguments» .entry)) after ⌝ }
+    ensures { λ r. ⌜ GoesOn (now (chain .entry)) t stayed l r ⌝ }
+    ensures { λ r. ⌜ GoesLow r ⌝ }
 {
-    if data_check::fetch_mode(mask) {
-        correct(storage, sense, stayed);
-        return Recovered::CorrectedOnly;
-    }
-    if wrong {
-        correct(storage, sense, stayed);
-        return Recovered::Finished(data_check::less_unit_check(csw));
-    }
-    if !c.chains_command() {
-        correct(storage, sense, stayed);
-        return Recovered::Finished(data_check::less_unit_check(csw));
-    }
     match channel::resolve(chain, &chain[..0], l, location::next(l)) {
-        Fetched::Broken(_) => Recovered::Refused(Question::Agreement),
+        Fetched::Broken(_) => Decision::Answers(Recovered::Refused(Question::Agreement)),
         Fetched::Got(to, d) => match to {
-            Location::Restart(_) => Recovered::Refused(Question::Agreement),
-            Location::Chain(a) => {
-                build(
-                    storage,
-                    program,
-                    restart_arguments,
-                    sense,
-                    mask,
-                    x,
-                    stayed,
-                    a,
-                    d,
-                )
-            }
+            Location::Restart(_) => Decision::Answers(Recovered::Refused(Question::Agreement)),
+            Location::Chain(a) => search_restart(t, stayed, a, d),
         },
     }
 }
 
-// The same before the CSW was looked at.
-fn agreed(
-    chain: &[u8],
-    storage: &mut [u8],
-    program: &mut [u8],
-    restart_arguments: &mut [u8],
-    sense: &[u8],
-    csw: Csw,
-    mask: FileMask,
-    x: Extent,
-    stayed: ThreeStayed,
-    l: Location,
-    c: Ccw,
-    left: usize,
-    over: bool,
-) -> Recovered
-    requires { ⌜ RecoveryAreas (now chain) (now sense) (now program) (now «restart_arguments») ⌝ }
-    requires { ⌜ Inside (now chain) [] l ⌝ }
-    ensures { λ r.
-        let after = with r (now (storage .exit)) (now (program .exit)) (now («restart_arguments» .exit)) in
-        ⌜ Agrees (now (chain .entry)) (now (sense .entry)) csw mask x stayed l c left over
-        (now (storage .entry)) (now (program .entry)) (now («restart_arguments» .entry)) after ⌝ }
+// Whether the chain ends with a read whose last CCW is c: by its length, or for want of CC.
+fn ends(c: Ccw, wrong: bool) -> bool
+    ensures { λ r. ⌜ r ≡ (wrong || not (chainsCommand c)) ⌝ }
 {
-    let wrong = c.incorrect_length(left, over);
-    if !data_check::agrees(csw, l, left, wrong) {
-        return Recovered::Refused(Question::Agreement);
+    if wrong {
+        return true;
     }
-    conclude(
-        chain,
-        storage,
-        program,
-        restart_arguments,
-        sense,
-        csw,
-        mask,
-        x,
-        stayed,
-        l,
-        c,
-        wrong,
-    )
+    !c.chains_command()
 }
 
-// The read that begins with the CCW c at an address of the chain, retraced.
-fn retraced(
-    chain: &[u8],
-    storage: &mut [u8],
-    program: &mut [u8],
-    restart_arguments: &mut [u8],
-    sense: &[u8],
-    csw: Csw,
-    first: usize,
-    mask: FileMask,
-    x: Extent,
-    c: Ccw,
-) -> Recovered
-    requires { ⌜ RecoveryAreas (now chain) (now sense) (now program) (now «restart_arguments») ⌝ }
-    requires { ⌜ Inside (now chain) [] (Chain first) ⌝ }
+// Where the data chain ended so, and the CSW agrees.
+fn after_walk(chain: &[u8], t: Told, e: End, wrong: bool) -> Decision
+    requires { ⌜ length (now chain) ≤ 2048 ⌝ }
+    requires { ⌜ Inside (now chain) [] (e .at) ⌝ }
+    ensures { λ r. ⌜ AfterWalk (now (chain .entry)) t e wrong r ⌝ }
+    ensures { λ r. ⌜ GoesLow r ⌝ }
+{
+    let s = t.sense;
+    let csw = t.csw;
+    let mask = t.mask;
+    let c = e.ccw;
+    let l = e.at;
+    let stayed = e.stayed;
+    if recovered::fetch_mode(mask) {
+        return Decision::Corrects(Recovered::CorrectedOnly, pattern(s, stayed));
+    }
+    if ends(c, wrong) {
+        return Decision::Corrects(
+            Recovered::Finished(recovered::less_unit_check(csw)),
+            pattern(s, stayed),
+        );
+    }
+    go_on(chain, t, stayed, l)
+}
+
+// Where it ended so, and the CSW has yet to agree.
+fn walked_to(chain: &[u8], t: Told, e: End) -> Decision
+    requires { ⌜ length (now chain) ≤ 2048 ⌝ }
+    requires { ⌜ Inside (now chain) [] (e .at) ⌝ }
+    ensures { λ r. ⌜ WalkedTo (now (chain .entry)) t e r ⌝ }
+    ensures { λ r. ⌜ GoesLow r ⌝ }
+{
+    let csw = t.csw;
+    let c = e.ccw;
+    let l = e.at;
+    let wrong = c.incorrect_length(e.left, e.over);
+    if !recovered::agrees(csw, l, e.left, wrong) {
+        return Decision::Answers(Recovered::Refused(Question::Agreement));
+    }
+    after_walk(chain, t, e, wrong)
+}
+
+// The read that begins with the CCW c, retraced with storage of `size` bytes.
+fn retraced(chain: &[u8], size: usize, t: Told, c: Ccw) -> Decision
+    requires { ⌜ length (now chain) ≤ 2048 ⌝ }
+    requires { ⌜ Inside (now chain) [] (Chain (t .first)) ⌝ }
     requires { ⌜ InBytes c ⌝ }
-    requires { ⌜ Recovery.sensible (now sense) ≡ true ⌝ }
-    ensures { λ r.
-        let after = with r (now (storage .exit)) (now (program .exit)) (now («restart_arguments» .exit)) in
-        ⌜ ActsRetraced (now (chain .entry)) (now (sense .entry)) csw first mask x c
-        (now (storage .entry)) (now (program .entry)) (now («restart_arguments» .entry)) after ⌝ }
+    requires { ⌜ InBounds (t .sense) ⌝ }
+    ensures { λ r. ⌜ DecidesRetraced (now (chain .entry)) size t c r ⌝ }
+    ensures { λ r. ⌜ GoesLow r ⌝ }
 {
-    let size = storage.len();
     if !c.readable(size) {
-        return Recovered::Refused(Question::Agreement);
+        return Decision::Answers(Recovered::Refused(Question::Agreement));
     }
-    let restart = FromFront(base::be24(sense, 15));
-    let error = FromEnd(base::be16(sense, 18));
+    let s = t.sense;
+    let restart = s.restart;
+    let error = s.error;
     let k = error.from_front(restart).0;
-    match correction::retrace(
-        chain,
-        &chain[..0],
-        size,
-        Location::Chain(first),
-        c,
-        restart.0,
-        k,
-    ) {
-        Retraced::Checked => Recovered::Refused(Question::Agreement),
-        Retraced::Ended {
-            at,
-            ccw,
-            left,
-            over,
-            stayed,
-        } => agreed(
-            chain,
-            storage,
-            program,
-            restart_arguments,
-            sense,
-            csw,
-            mask,
-            x,
-            stayed,
-            at,
-            ccw,
-            left,
-            over,
-        ),
+    match correction::retrace(chain, size, Location::Chain(t.first), c, restart.0, k) {
+        Retraced::Checked => Decision::Answers(Recovered::Refused(Question::Agreement)),
+        Retraced::Ended(e) => walked_to(chain, t, e),
     }
 }
 
-// Action 5, for the sense bytes, the CSW, the address of the read's first CCW and the mask of a report.
-pub fn five(
-    chain: &[u8],
-    storage: &mut [u8],
-    program: &mut [u8],
-    restart_arguments: &mut [u8],
-    sense: &[u8],
-    csw: Csw,
-    first: usize,
-    mask: FileMask,
-    x: Extent,
-) -> Recovered
-    requires { ⌜ RecoveryAreas (now chain) (now sense) (now program) (now «restart_arguments») ⌝ }
-    ensures { λ r.
-        let after = with r (now (storage .exit)) (now (program .exit)) (now («restart_arguments» .exit)) in
-        ⌜ Acts Recovery.actionFive (now (chain .entry)) (now (sense .entry)) csw first mask x
-        (now (storage .entry)) (now (program .entry)) (now («restart_arguments» .entry)) after ⌝ }
+// Action 5.
+pub fn five(chain: &[u8], size: usize, t: Told) -> Decision
+    requires { ⌜ length (now chain) ≤ 2048 ⌝ }
+    ensures { λ r. ⌜ Decides Recovery.actionFive (now (chain .entry)) size t r ⌝ }
+    ensures { λ r. ⌜ GoesLow r ⌝ }
 {
-    if sense[7] != 0x53 {
-        return Recovered::Refused(Question::Format);
+    let s = t.sense;
+    if s.format != 0x53 {
+        return Decision::Answers(Recovered::Refused(Question::Format));
     }
-    let Slot::Holds(c) = channel::fetch(chain, &chain[..0], Location::Chain(first)) else {
-        return Recovered::Refused(Question::Agreement);
+    let Slot::Holds(c) = channel::fetch(chain, &chain[..0], Location::Chain(t.first)) else {
+        return Decision::Answers(Recovered::Refused(Question::Agreement));
     };
-    if !data_check::reads_data(drive::command_of(c.command)) {
-        return Recovered::Refused(Question::Agreement);
+    if !recovered::reads_data(drive::command_of(c.command)) {
+        return Decision::Answers(Recovered::Refused(Question::Agreement));
     }
-    if !data_check::sensible(sense) {
-        return Recovered::Refused(Question::Agreement);
+    if !recovered::sensible(s) {
+        return Decision::Answers(Recovered::Refused(Question::Agreement));
     }
-    retraced(
-        chain,
-        storage,
-        program,
-        restart_arguments,
-        sense,
-        csw,
-        first,
-        mask,
-        x,
-        c,
-    )
+    retraced(chain, size, t, c)
 }

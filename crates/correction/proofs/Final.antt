@@ -1,6 +1,6 @@
 -- Where bytes of a read stayed.
 --   final-past       no byte past the places
---   passes           a stretch more
+--   passes, all-pass a stretch more, of one byte and of three
 --   mended-is        the correction of a read, at three places
 use Prim.Native.Nat.{ℕ, zero, suc, _+_, _-_, _<_, _≤_}
 use native.Mathlib.Omega.{arith}
@@ -244,7 +244,8 @@ place-stayed : (q : Option ℕ) → placeOf (stayedOf q) ≡ q
 place-stayed none = refl
 place-stayed (some a) = refl
 
-pub mended-is : (ps : List (Option ℕ)) (n k x y z : ℕ) (st : List ℕ) → length ps ≤ n → mended (threeStayedOf k ps) x y z st ≡ corrected ps (spread n k (x ∷ y ∷ z ∷ [])) st
+pub mended-is : (ps : List (Option ℕ)) (n k x y z : ℕ) (st : List ℕ) → length ps ≤ n
+    → mended (record { stayed = threeStayedOf k ps; pattern0 = x; pattern1 = y; pattern2 = z }) st ≡ corrected ps (spread n k (x ∷ y ∷ z ∷ [])) st
 unfolding mended spread
 mended-is ps n k x y z st h =
     rw (place-stayed (finalAt ps k), place-stayed (finalAt ps (k + 1)), place-stayed (finalAt ps (k + 2)))

@@ -1,19 +1,23 @@
 -- A read's data chain retraced, for three bytes of the read: where each of them stayed.
 use Prim.Native.Nat.{ℕ, zero, suc, _+_, _-_}
 use mathlib.Core.Path.{_≡_}
-use mathlib.Core.Bool.{Bool, false, _&&_}
+use mathlib.Core.Bool.{Bool, true, false, _&&_}
 use mathlib.Core.Option.{Option, none, some}
 use mathlib.Core.List.{List, [], _∷_}
 use lib.Dec.{ltb, leb}
 use Rattle.base.specs.Choice.{pick}
 use Rattle.channel.specs.declared.Ccw.{Ccw}
 use Rattle.channel.specs.declared.Location.{Location}
-use Rattle.channel.specs.Ccw.{Lent, skips}
-use Rattle.channel.specs.Walk.{Walk, walked, checked, walk}
+use Rattle.channel.specs.declared.Fetched.{Fetched}
+use Rattle.channel.specs.declared.Fetched.the-variants.{Got, Broken}
+use Rattle.channel.specs.Ccw.{Lent, skips, next, resolve}
+use Rattle.channel.specs.Fetch.{InBytes, Inside}
+use Rattle.channel.specs.Walk.{Walk, walked, checked, walk, readable}
 use Rattle.recovery.specs.Correct.{mend, overwritten}
 use Rattle.correction.specs.declared.Stayed.{Stayed}
 use Rattle.correction.specs.declared.Stayed.the-variants.{At, Nowhere}
 use Rattle.correction.specs.declared.ThreeStayed.{ThreeStayed}
+use Rattle.correction.specs.declared.Correction.{Correction}
 use Rattle.correction.specs.declared.Retraced.{Retraced}
 use Rattle.correction.specs.declared.Retraced.the-variants.{Ended, Checked}
 
@@ -39,13 +43,27 @@ threeStayedOf k ps = record { first = stayedOf (finalAt ps k); second = stayedOf
 
 -- how a walk ended, and where the three bytes stayed
 unfoldable pub retraced : ℕ → Walk → Retraced
-retraced k (walked ps l c left over) = Ended l c left over (threeStayedOf k ps)
+retraced k (walked ps l c left over) = Ended (record { at = l; ccw = c; left = left; over = over; stayed = threeStayedOf k ps })
 retraced k (checked ps l) = Checked
 
 -- the walk of n bytes from the CCW c at l on
-abbrev pub Retraces : (chain program : List ℕ) → ℕ → Location → Ccw → ℕ → ℕ → Retraced → Type 0
-Retraces chain program size l c n k r =
-    (p : Lent) → p .chain ≡ chain → p .program ≡ program → r ≡ retraced k (walk p size n l c (c .count) (c .address))
+abbrev pub Retraces : (chain : List ℕ) → ℕ → Location → Ccw → ℕ → ℕ → Retraced → Type 0
+Retraces chain size l c n k r =
+    (p : Lent) → p .chain ≡ chain → p .program ≡ [] → r ≡ retraced k (walk p size n l c (c .count) (c .address))
+
+-- a CCW that a read may not use is a program check
+unfoldable pub usable : ℕ → Fetched → Fetched
+usable size (Broken l) = Broken l
+usable size (Got l c) = pick (readable size c) (Got l c) (Broken l)
+
+-- the CCW that a data chain goes on with behind the one at l
+abbrev pub NextUsable : (chain : List ℕ) → ℕ → Location → Fetched → Type 0
+NextUsable chain size l f = (p : Lent) → p .chain ≡ chain → p .program ≡ [] → f ≡ usable size (resolve p l (next l))
+
+-- it stands in the chain, and a read may use it
+abbrev pub Usable : (chain : List ℕ) → ℕ → Fetched → Type 0
+Usable chain size (Broken l) = Unit {0}
+Usable chain size (Got l c) = Inside chain [] l × InBytes c × (readable size c ≡ true)
 
 -- ---- a stretch of n bytes, from byte `from` of the read on, under the CCW c
 
@@ -72,7 +90,16 @@ allPassed c from n k s = record {
 
 -- ---- the correction at three places
 
--- x, y and z exclusive-ored into the bytes of storage where the three stayed;
+-- the pattern exclusive-ored into the bytes of storage where the three stayed;
 -- "Skipped bytes, bytes past the counts, and bytes overwritten later by the same read are left."
-unfoldable pub mended : ThreeStayed → (x y z : ℕ) → List ℕ → List ℕ
-mended s x y z st = mend (placeOf (s .third)) z (mend (placeOf (s .second)) y (mend (placeOf (s .first)) x st))
+unfoldable pub mended : Correction → List ℕ → List ℕ
+mended c st =
+    mend (placeOf (c .stayed .third)) (c .pattern2) (mend (placeOf (c .stayed .second)) (c .pattern1) (mend (placeOf (c .stayed .first)) (c .pattern0) st))
+
+-- no byte stayed
+abbrev pub nowhere : ThreeStayed
+nowhere = record { first = Nowhere; second = Nowhere; third = Nowhere }
+
+-- nothing to correct
+abbrev pub nothing : Correction
+nothing = record { stayed = nowhere; pattern0 = 0; pattern1 = 0; pattern2 = 0 }

@@ -1,5 +1,5 @@
--- Recovery from the report of a cut that the trial drive made: questions 6 to 8 are answered with yes (`to-five`, `format-is`), 9 but for the next
--- CCW (`comes-to`), and storage comes out as the faultless read leaves it.
+-- Recovery from the report of a cut that the trial drive made: what its sense bytes say (`restart-is` to `sector-is`), questions 6 to 8 are answered
+-- with yes (`to-five`, `format-is`), 9 but for the next CCW (`comes-to`), and storage comes out as the faultless read leaves it.
 use Prim.Native.Nat.{ℕ, _+_, _-_, _≤_}
 use native.Mathlib.Omega.{arith}
 use mathlib.Core.Path.{_≡_, refl, ap, ap₂, sym, _∙_}
@@ -51,15 +51,15 @@ module _ (k : Cut) where
   unfolding reportOf cutSense Table.actionFor Table.rows Table.fits Table.covers pick
   action-is = refl
 
-  restart-is : restartDisplacement (r .sense) ≡ k .restart
+  pub restart-is : restartDisplacement (r .sense) ≡ k .restart
   unfolding reportOf cutSense addressBytes two three
   restart-is = three-back (k .restart)
 
-  error-is : errorDisplacement (r .sense) ≡ k .error
+  pub error-is : errorDisplacement (r .sense) ≡ k .error
   unfolding reportOf cutSense addressBytes two three
   error-is = two-back (k .error)
 
-  track-is : cutTrack (r .sense) ≡ k .at
+  pub track-is : cutTrack (r .sense) ≡ k .at
   unfolding reportOf cutSense addressBytes two
   track-is = λ i. record { cylinder = two-back (k .at .cylinder) i; head = two-back (k .at .head) i }
 
@@ -67,11 +67,11 @@ module _ (k : Cut) where
   unfolding reportOf cutSense
   format-is = refl
 
-  number-is : getD (r .sense) 12 0 ≡ k .r
+  pub number-is : getD (r .sense) 12 0 ≡ k .r
   unfolding reportOf cutSense addressBytes two
   number-is = refl
 
-  sector-is : getD (r .sense) 13 0 ≡ 0
+  pub sector-is : getD (r .sense) 13 0 ≡ 0
   unfolding reportOf cutSense addressBytes two
   sector-is = refl
 

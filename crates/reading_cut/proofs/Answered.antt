@@ -1,54 +1,92 @@
 -- What the definitions make of a cut, from what the code's recovery answered.
---   written                          six bytes in the list, from those that the code writes
---   reported                         the report that the code tells is that of the cut
+--   told                             what the report of the cut tells
 --   again                            a restart
 --   closed, corrected                an end: finished, and corrected only
 --   closed-low                       the CSW of the first fits its bytes
 --   refused, one, two, repeated      a stop, with all areas as they were
-use Prim.Native.Nat.{ℕ, _-_, _*_}
-use mathlib.Core.Path.{_≡_, refl, ap, ap₂, sym, _∙_}
-use mathlib.Core.Option.{none}
+use Prim.Native.Nat.{ℕ}
+use mathlib.Core.Path.{_≡_, refl, ap, sym, _∙_}
 use mathlib.Core.List.{List, [], _∷_, _++_}
-use lib.ListN.{length, drop}
-use borrow.Rule.Slice.PartMut.{midOf, putMid}
-use Rattle.questions.specs.Areas.{restartLimit}
+use lib.ListN.{drop}
+use Rattle.base.specs.Choice.{opt}
+use Rattle.base.specs.Bytes as Bytes
 use Rattle.questions.specs.declared.Question.{Question}
 use Rattle.questions.specs.Number.{numberOf}
-use Rattle.base.specs.Choice.{opt}
-use Rattle.copy.proofs.Lists.{put-home}
 use Rattle.address.specs.declared.Extent.{Extent}
 use Rattle.abstract_machine.specs.Reading.{stop}
 use Rattle.channel.specs.declared.Csw.{Csw}
-use Rattle.channel.specs.declared.Location.the-variants as Location
 use Rattle.channel.specs.Ccw.{addressOf}
 use Rattle.drive.specs.Drive.{addressBytes}
-use Rattle.drive.specs.Step as Step
+use Rattle.drive.specs.Step.{cutSense}
 use Rattle.command.specs.declared.Cut.{Cut}
 use Rattle.location.specs.Low.{CswLow}
 use Rattle.command.specs.Answer.{cutOf}
-use Rattle.trial.specs.declared.Ran.{Ran}
-use Rattle.trial.specs.Run.{Runs}
 use Rattle.recovery.specs.Table.{rows}
 use Rattle.recovery.specs.Recovery as Recovery
+use Rattle.report.specs.declared.User.the-variants.{Missing}
 use Rattle.recovered.specs.declared.Kind.{Kind}
 use Rattle.recovered.specs.declared.Kind.the-variants.{Five, FiveA, Eight, Ten, TenA}
 use Rattle.recovered.specs.declared.Recovered.{Recovered}
 use Rattle.recovered.specs.declared.Recovered.the-variants.{Refused, ActionOne, ActionTwo, Repeat, CorrectedOnly, Finished, Restart}
-use Rattle.recovered.specs.Applied.{Applied, with, applied, kindOf, givenOf, reportWith}
-use Rattle.action_eight_ten.specs.declared.User.the-variants.{Missing}
-use Rattle.recover.specs.Recover.{Recovers}
+use Rattle.recovered.specs.Applied.{Applied, with, applied, kindOf, actionNumber, givenOf}
 use Rattle.recover.proofs.Finished.{recovered-low}
-use Rattle.recovered.specs.Applied.{actionNumber}
-use Rattle.demand_three.specs.WholeReading.{Stopped, byAction, byQuestion, reportOf, entryOf, answered, recoverCut, restartedIn, restartedRun}
+use Rattle.demand_three.specs.WholeReading.{Stopped, byAction, byQuestion, reportOf, entryOf, answered, recoverCut}
+use Rattle.demand_three.proofs.Genuine.{restart-is, error-is, track-is, number-is, sector-is}
 use Rattle.reading_cut.specs.declared.Went.{Went}
 use Rattle.reading_cut.specs.declared.Went.the-variants.{Again, Closed, Halted}
 use Rattle.reading_cut.specs.Entry.{entryBytes, stoppedNumber}
-use Rattle.reading_cut.specs.Cut.{RecoversCut, noteAt, AfterCut, lentAreas}
+use Rattle.reading_cut.specs.Cut.{CutTells, RecoversCut, AfterCut, lentAreas}
 
-pub written : (l s : List ℕ) (made : ℕ) (ys : List ℕ) → length s ≡ 6 → ys ≡ s ++ drop 6 (midOf (made * 6) (length l - made * 6) l)
-    → putMid (made * 6) (length l - made * 6) l ys ≡ noteAt made s l
-unfolding noteAt
-written l s made ys e q = put-home l s (made * 6) ys (rw e q) ∙ rw e
+-- ---- its report
+
+pub told : (k : Cut) (first : ℕ) → first ≡ addressOf (k .first)
+    → CutTells k
+    (record {
+      sense = record {
+        byte0 = 0x08;
+        byte1 = 0;
+        byte2 = 0x40;
+        format = 0x53;
+        track = k .at;
+        number = k .r;
+        sector = 0;
+        restart = k .restart;
+        error = k .error;
+        pattern0 = k .pattern0;
+        pattern1 = k .pattern1;
+        pattern2 = k .pattern2;
+      };
+      csw = k .csw;
+      first = first;
+      mask = k .mask;
+      user = Missing;
+      tries = 0;
+    })
+unfolding reportOf cutSense addressBytes Bytes.two Bytes.three Recovery.userTrack opt
+told k first e = λ st.
+    let cut = cutOf k st in
+    record {
+      sense = record {
+        full = refl;
+        byte0 = refl;
+        byte1 = refl;
+        byte2 = refl;
+        format = refl;
+        track = track-is cut;
+        number = number-is cut;
+        sector = sector-is cut;
+        restart = restart-is cut;
+        error = error-is cut;
+        pattern0 = refl;
+        pattern1 = refl;
+        pattern2 = refl;
+      };
+      csw = refl;
+      first = sym e;
+      mask = refl;
+      user = refl;
+      tries = refl;
+    }
 
 -- ---- the answer of the definitions, read off the code's
 
@@ -99,13 +137,6 @@ module _ (chain : List ℕ) (x : Extent) (k : Cut) (st p a : List ℕ) where
   abbrev comes : Recovery.Recovery
   comes = Recovery.recover (givenOf rows chain x) (reportOf (cutOf k st)) st
 
-  pub reported : (sense : List ℕ) (first : ℕ) (out : Applied) → sense ≡ Step.cutSense (cutOf k []) → first ≡ addressOf (k .first)
-      → Recovers chain sense (k .csw) first (k .mask) 0 x Missing st p a out → RecoversCut chain x k st p a out
-  unfolding Recovery.userTrack opt reportOf Step.cutSense
-  reported sense first out e f h =
-      h none refl
-      ∙ ap₂ (λ (s : List ℕ) (n : ℕ). applied (Recovery.recover (givenOf rows chain x) (reportWith s (k .csw) n (k .mask) none 0) st) st p a) e f
-
   module _ (r : Recovered) (st′ p′ a′ : List ℕ) (e : RecoversCut chain x k st p a (with r st′ p′ a′)) where
     came : comes ≡ back r st′ p′ a′
     came = sym (back-is comes st p a) ∙ ap backFrom (sym e)
@@ -127,27 +158,24 @@ module _ (chain : List ℕ) (x : Extent) (k : Cut) (st p a : List ℕ) where
   unfolding entryBytes entryOf
   entry-is kind action e = ap (λ (n : ℕ). n ∷ addressBytes (k .at) ++ k .r ∷ []) (e ∙ ap actionNumber (sym (kind-of kind)))
 
-  module _ (arguments image faults l : List ℕ) (made : ℕ) (st′ p′ a′ l′ : List ℕ) where
+  module _ (l st′ p′ a′ l′ : List ℕ) where
     -- what the cut comes to, from the areas as they were
     abbrev Comes : Went → (storage program restartArguments list : List ℕ) → Type 0
-    Comes g s q b m = AfterCut chain arguments image faults x k made (lentAreas st p a l) g (lentAreas s q b m)
+    Comes g s q b m = AfterCut chain x k (lentAreas st p a l) g (lentAreas s q b m)
 
-    pub again : (kind : Kind) (action : ℕ) → RecoversCut chain x k st p a (with (Restart kind) st′ p′ a′) → action ≡ actionNumber kind
-        → l′ ≡ noteAt made (action ∷ addressBytes (k .at) ++ k .r ∷ []) l
-        → (r : Ran) (after : List ℕ) → Runs chain arguments p′ a′ image faults restartLimit (Location.Restart 0) st′ r after → Comes (Again r) after p′ a′ l′
-    unfolding answered restartedRun restartedIn
-    again kind action e f q r after runs = (
-      entryOf (kindBack kind) (cutOf k st),
-      record { program = p′; restartArguments = a′; storage = st′ },
-      is (Restart kind) st′ p′ a′ e,
-      refl,
-      refl,
-      q ∙ ap (λ (s : List ℕ). noteAt made s l) (entry-is kind action f),
-      runs,
-    )
+    -- the part of the list with the entry of an action
+    abbrev Noted : ℕ → Type 0
+    Noted action = l′ ≡ (action ∷ addressBytes (k .at) ++ k .r ∷ []) ++ drop 6 l
 
-    pub closed : (w : Csw) → RecoversCut chain x k st p a (with (Finished w) st′ p′ a′) → l′ ≡ noteAt made (0x05 ∷ addressBytes (k .at) ++ k .r ∷ []) l
-        → Comes (Closed w) st′ p′ a′ l′
+    noted : (kind : Kind) (action : ℕ) → action ≡ actionNumber kind → Noted action → l′ ≡ entryBytes (entryOf (kindBack kind) (cutOf k st)) ++ drop 6 l
+    noted kind action f q = q ∙ ap (λ (s : List ℕ). s ++ drop 6 l) (entry-is kind action f)
+
+    pub again : (kind : Kind) (action : ℕ) → RecoversCut chain x k st p a (with (Restart kind) st′ p′ a′) → action ≡ actionNumber kind → Noted action
+        → Comes Again st′ p′ a′ l′
+    unfolding answered
+    again kind action e f q = (entryOf (kindBack kind) (cutOf k st), is (Restart kind) st′ p′ a′ e, noted kind action f q)
+
+    pub closed : (w : Csw) → RecoversCut chain x k st p a (with (Finished w) st′ p′ a′) → Noted 0x05 → Comes (Closed w) st′ p′ a′ l′
     unfolding answered applied
     closed w e q =
         let y = areas (Finished w) st′ p′ a′ e in (
@@ -155,11 +183,10 @@ module _ (chain : List ℕ) (x : Extent) (k : Cut) (st p a : List ℕ) where
           is (Finished w) st′ p′ a′ e,
           ap (λ (z : Applied). z .program) y,
           ap (λ (z : Applied). z .restartArguments) y,
-          q ∙ ap (λ (s : List ℕ). noteAt made s l) (entry-is Five 0x05 refl),
+          noted Five 0x05 refl q,
         )
 
-    pub corrected : RecoversCut chain x k st p a (with CorrectedOnly st′ p′ a′) → l′ ≡ noteAt made (0x05 ∷ addressBytes (k .at) ++ k .r ∷ []) l
-        → Comes (Closed (k .csw)) st′ p′ a′ l′
+    pub corrected : RecoversCut chain x k st p a (with CorrectedOnly st′ p′ a′) → Noted 0x05 → Comes (Closed (k .csw)) st′ p′ a′ l′
     unfolding answered applied
     corrected e q =
         let y = areas CorrectedOnly st′ p′ a′ e in (
@@ -167,7 +194,7 @@ module _ (chain : List ℕ) (x : Extent) (k : Cut) (st p a : List ℕ) where
           is CorrectedOnly st′ p′ a′ e,
           ap (λ (z : Applied). z .program) y,
           ap (λ (z : Applied). z .restartArguments) y,
-          q ∙ ap (λ (s : List ℕ). noteAt made s l) (entry-is Five 0x05 refl),
+          noted Five 0x05 refl q,
         )
 
     -- a stop leaves the areas as they were

@@ -1,36 +1,73 @@
-// A cut in a reading: its recovery, its place in the list, and the restarted run.
-use action_eight_ten::User;
+// A cut in a reading: what its report tells, its recovery, and its place in the list.
 use address::Extent;
 use channel::Csw;
-use channel::Location;
 use command::Cut;
 use recovered::Recovered;
-use trial::Ran;
+use report::Sense;
+use report::Told;
+use report::User;
 ghost use mathlib.Core.Path.{_≡_};
 ghost use mathlib.Core.List.{_∷_, _++_, []};
-ghost use Prim.Native.Nat.{_+_, _*_, _≤_};
-ghost use lib.ListN.{length};
+ghost use Prim.Native.Nat.{_≤_};
+ghost use lib.ListN.{length, drop};
+ghost use Rattle.report.specs.Told.{ToldLow};
 ghost use Rattle.recovered.specs.Applied.{with};
 ghost use Rattle.drive.specs.Drive.{addressBytes};
 ghost use Rattle.command.specs.Answer.{CutLow};
-ghost use Rattle.read_command.specs.Reads.{Begun};
-ghost use Rattle.reading_cut.specs.Cut.{Lendable, RecoversCut, noteAt, lentAreas, WentLow, AfterCut};
+ghost use Rattle.reading_cut.specs.Cut.{Lendable, CutTells, RecoversCut, lentAreas, WentLow, AfterCut};
 
-// What comes of a cut: the restarted run, an end with this CSW, or a stop by this number.
+// What comes of a cut: a restart, built and yet to be run; an end with this CSW; a stop by this number.
 pub enum Went {
-    Again(Ran),
+    Again,
     Closed(Csw),
     Halted(u8),
 }
 
-// The recovery from a cut, told by its report: without a seek argument, and with no tries made.
+// What the report of a cut tells: a correctable data check in format 53 and its sector 0, as in the drive's sense bytes; no seek
+// argument, and no tries made.
+fn told_by(k: Cut) -> Told
+    requires { ⌜ CutLow k ⌝ }
+    ensures { λ t. ⌜ CutTells k t ⌝ }
+    ensures { λ t. ⌜ ToldLow t ⌝ }
+{
+    let csw = k.csw;
+    let first = k.first;
+    let mask = k.mask;
+    let at = k.at;
+    let restart = k.restart;
+    let error = k.error;
+    let sense = Sense {
+        byte0: 0x08,
+        byte1: 0,
+        byte2: 0x40,
+        format: 0x53,
+        track: at,
+        number: k.r as u8,
+        sector: 0,
+        restart: restart,
+        error: error,
+        pattern0: k.pattern0,
+        pattern1: k.pattern1,
+        pattern2: k.pattern2,
+    };
+    Told {
+        sense: sense,
+        csw: csw,
+        first: location::address_of(first),
+        mask: mask,
+        user: User::Missing,
+        tries: 0,
+    }
+}
+
+// The recovery from a cut: decided by what its report tells, then carried out.
 fn recover_cut(
     chain: &[u8],
+    x: Extent,
+    k: Cut,
     storage: &mut [u8],
     program: &mut [u8],
     restart_arguments: &mut [u8],
-    k: Cut,
-    x: Extent,
 ) -> Recovered
     requires { ⌜ Lendable (now chain) (now program) (now «restart_arguments») ⌝ }
     requires { ⌜ CutLow k ⌝ }
@@ -38,34 +75,19 @@ fn recover_cut(
         let after = with r (now (storage .exit)) (now (program .exit)) (now («restart_arguments» .exit)) in
         ⌜ RecoversCut (now (chain .entry)) x k (now (storage .entry)) (now (program .entry)) (now («restart_arguments» .entry)) after ⌝ }
 {
-    let mut sense = [0u8; 24];
-    sense_bytes::put_cut_sense(&mut sense, k);
-    let first = k.first;
-    let mask = k.mask;
-    recover::recover_from(
-        chain,
-        storage,
-        program,
-        restart_arguments,
-        &sense,
-        k.csw,
-        location::address_of(first),
-        mask,
-        0,
-        x,
-        User::Missing,
-    )
+    let t = told_by(k);
+    recover::recover_told(chain, t, x, storage, program, restart_arguments)
 }
 
-// One recovery more in the list, behind those made.
-fn note(list: &mut [u8], made: usize, action: u8, k: Cut)
-    requires { ⌜ made * 6 + 6 ≤ length (now list) ⌝ }
+// A recovery's six bytes at the front of a part of the list.
+fn note(entry: &mut [u8], action: u8, k: Cut)
+    requires { ⌜ 6 ≤ length (now entry) ⌝ }
     requires { ⌜ CutLow k ⌝ }
-    ensures { λ _. ⌜ now (list .exit) ≡ noteAt made (action ∷ addressBytes (k .at) ++ k .r ∷ []) (now (list .entry)) ⌝ }
+    ensures { λ _. ⌜ now (entry .exit) ≡ (action ∷ addressBytes (k .at) ++ k .r ∷ []) ++ drop 6 (now (entry .entry)) ⌝ }
 {
     let a = k.at;
     copy::put(
-        &mut list[made * 6..],
+        entry,
         &[
             action,
             (a.cylinder / 256) as u8,
@@ -77,65 +99,42 @@ fn note(list: &mut [u8], made: usize, action: u8, k: Cut)
     );
 }
 
-// A cut: its recovery, noted in the list, and the restarted run.
+// A cut: its recovery, noted in the part of the list that is lent as `entry`.
 pub fn after_cut(
     chain: &[u8],
-    arguments: &[u8],
-    image: &[u8],
-    faults: &[u8],
     x: Extent,
     k: Cut,
-    made: usize,
     storage: &mut [u8],
     program: &mut [u8],
     restart_arguments: &mut [u8],
-    list: &mut [u8],
+    entry: &mut [u8],
 ) -> Went
-    requires { ⌜ Begun (now chain) (now program) (now image) (now faults) ⌝ }
     requires { ⌜ Lendable (now chain) (now program) (now «restart_arguments») ⌝ }
     requires { ⌜ CutLow k ⌝ }
-    requires { ⌜ made * 6 + 6 ≤ length (now list) ⌝ }
+    requires { ⌜ 6 ≤ length (now entry) ⌝ }
     ensures { λ r.
-        let before = lentAreas (now (storage .entry)) (now (program .entry)) (now («restart_arguments» .entry)) (now (list .entry)) in
-        let after = lentAreas (now (storage .exit)) (now (program .exit)) (now («restart_arguments» .exit)) (now (list .exit)) in
-        ⌜ AfterCut (now (chain .entry)) (now (arguments .entry)) (now (image .entry)) (now (faults .entry)) x k made before r after ⌝ }
+        let before = lentAreas (now (storage .entry)) (now (program .entry)) (now («restart_arguments» .entry)) (now (entry .entry)) in
+        let after = lentAreas (now (storage .exit)) (now (program .exit)) (now («restart_arguments» .exit)) (now (entry .exit)) in
+        ⌜ AfterCut (now (chain .entry)) x k before r after ⌝ }
     ensures { λ r. ⌜ WentLow r ⌝ }
 {
-    match recover_cut(chain, storage, program, restart_arguments, k, x) {
+    match recover_cut(chain, x, k, storage, program, restart_arguments) {
         Recovered::Restart(kind) => {
-            note(list, made, recovered::action_number(kind), k);
-            return Went::Again(trial::run_from(
-                chain,
-                arguments,
-                program,
-                restart_arguments,
-                image,
-                faults,
-                questions::RESTART_LIMIT,
-                Location::Restart(0),
-                storage,
-            ));
+            note(entry, recovered::action_number(kind), k);
+            Went::Again
         }
         Recovered::Finished(w) => {
-            note(list, made, 0x05, k);
-            return Went::Closed(w);
+            note(entry, 0x05, k);
+            Went::Closed(w)
         }
         Recovered::CorrectedOnly => {
-            note(list, made, 0x05, k);
+            note(entry, 0x05, k);
             let w = k.csw;
-            return Went::Closed(w);
+            Went::Closed(w)
         }
-        Recovered::Refused(q) => {
-            return Went::Halted(questions::number(q));
-        }
-        Recovered::ActionOne => {
-            return Went::Halted(1);
-        }
-        Recovered::ActionTwo => {
-            return Went::Halted(2);
-        }
-        Recovered::Repeat => {
-            return Went::Halted(3);
-        }
+        Recovered::Refused(q) => Went::Halted(questions::number(q)),
+        Recovered::ActionOne => Went::Halted(1),
+        Recovered::ActionTwo => Went::Halted(2),
+        Recovered::Repeat => Went::Halted(3),
     }
 }

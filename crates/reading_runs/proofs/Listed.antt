@@ -1,22 +1,48 @@
 -- The areas behind a reading, from recovery to recovery.
---   noted-list       the list with one recovery more
+--   noteAt, partAt, homeAt         six bytes in the list; the part that is lent for them; the list once it comes home
+--   part-long .. part-noted        how long that part is, and the list behind it
+--   noted-list                     the list with one recovery more
 --   program-last, arguments-last   the restart areas with one restart more
-use Prim.Native.Nat.{ℕ, _+_, _*_}
+use Prim.Native.Nat.{ℕ, _+_, _-_, _*_, _≤_}
 use native.Mathlib.Omega.{arith}
 use mathlib.Core.Path.{_≡_, refl, ap, ap₂, sym, _∙_}
 use mathlib.Core.List.{List, [], _∷_, _++_, append-assoc, append-nil}
-use lib.ListN.{length, take, drop, length-append}
+use lib.ListN.{length, take, drop, length-append, length-drop}
 use lib.Seq.{take-append-seam, drop-append-add, drop-drop}
+use borrow.Rule.Slice.PartMut.{midOf, putMid, put-same}
 use Rattle.base.specs.Bytes.{two}
+use Rattle.copy.proofs.Lists.{tail-lent, put-home}
 use Rattle.drive.specs.Drive.{addressBytes}
 use Rattle.demand_three.specs.WholeReading.{Entry, Restarted}
 use Rattle.reading_cut.specs.Entry.{entryBytes}
-use Rattle.reading_cut.specs.Cut.{noteAt}
 use Rattle.reading_runs.specs.Conclusion.{entriesBytes, listAfter, programAfter, restartArgumentsAfter}
 
 entry-length : (t : Entry) → length (entryBytes t) ≡ 6
 unfolding entryBytes addressBytes two
 entry-length t = refl
+
+-- six bytes in a list, behind those of the recoveries made
+unfoldable pub noteAt : ℕ → (entry list : List ℕ) → List ℕ
+noteAt made s l = take (made * 6) l ++ (s ++ drop (made * 6 + 6) l)
+
+-- what is lent of the list, and the list once it comes home
+abbrev pub partAt : ℕ → List ℕ → List ℕ
+partAt made l = midOf (made * 6) (length l - made * 6) l
+
+abbrev pub homeAt : ℕ → (l part : List ℕ) → List ℕ
+homeAt made l part = putMid (made * 6) (length l - made * 6) l part
+
+pub part-long : (made limit : ℕ) (l : List ℕ) {n : ℕ} → made ≤ limit → (made ≡ limit → ⊥) → length l ≡ n → limit * 6 ≤ n → 6 ≤ length (partAt made l)
+part-long made limit l h ne e g = rw (tail-lent l (made * 6), length-drop) (omega arith)
+
+pub part-kept : (made : ℕ) (l : List ℕ) → homeAt made l (partAt made l) ≡ l
+part-kept made l = put-same (made * 6) (length l - made * 6) l
+
+pub part-noted : (made : ℕ) (l part : List ℕ) (t : Entry) → part ≡ entryBytes t ++ drop 6 (partAt made l) → homeAt made l part ≡ noteAt made (entryBytes t) l
+unfolding noteAt
+part-noted made l part t e =
+    put-home l (entryBytes t) (made * 6) part (e ∙ ap (λ (n : ℕ). entryBytes t ++ drop n (partAt made l)) (sym (entry-length t)))
+    ∙ ap (λ (n : ℕ). take (made * 6) l ++ (entryBytes t ++ drop (made * 6 + n) l)) (entry-length t)
 
 entries-length : (ts : List Entry) → length (entriesBytes ts) ≡ length ts * 6
 unfolding entriesBytes

@@ -11,6 +11,7 @@ use mathlib.Core.Path.{_≡_, refl, ap, sym, _∙_}
 use mathlib.Core.Option.{some}
 use mathlib.Core.List.{List, [], _∷_, _++_, append-nil}
 use lib.ListN.{length, length-append}
+use Rattle.questions.specs.Areas.{restartLimit}
 use Rattle.faults.specs.Faults.{Fault, faultsAt}
 use Rattle.address.specs.declared.Extent.{Extent}
 use Rattle.abstract_machine.specs.Machine.{Result}
@@ -18,6 +19,7 @@ use Rattle.abstract_machine.specs.Reading as Reading
 use Rattle.abstract_machine.specs.Reading.{Log}
 use Rattle.abstract_machine.proofs.Whole.{reading-ended, reading-limited, reading-exhausted, reading-restart, reading-finish, reading-stop}
 use Rattle.channel.specs.declared.Csw.{Csw}
+use Rattle.channel.specs.declared.Location.the-variants as Location
 use Rattle.drive.specs.Step as Step
 use Rattle.drive.specs.Run.{Limit}
 use Rattle.command.specs.declared.Cut.{Cut}
@@ -25,17 +27,17 @@ use Rattle.command.specs.declared.End.{End}
 use Rattle.trial.specs.declared.Limit as Code
 use Rattle.trial.specs.declared.Ran.{Ran}
 use Rattle.trial.specs.declared.Ran.the-variants as Ran
-use Rattle.trial.specs.Run.{ranOf}
-use Rattle.demand_three.specs.WholeReading.{Entry, Restarted, Whole, final, givenIn}
+use Rattle.trial.specs.Run.{ranOf, Runs}
+use Rattle.demand_three.specs.WholeReading.{Entry, Restarted, Whole, restartedIn, restartedRun, final, givenIn}
 use Rattle.reading_runs.specs.declared.How.{How}
 use Rattle.reading_runs.specs.declared.How.the-variants.{Ended, Limited, Stop}
 use Rattle.reading_runs.specs.declared.Outcome.the-variants as Outcome
 use Rattle.reading_cut.specs.declared.Went.the-variants.{Again, Closed, Halted}
 use Rattle.reading_cut.specs.Entry.{entryBytes}
-use Rattle.reading_cut.specs.Cut.{Areas, noteAt, toldOf, AfterCut}
+use Rattle.reading_cut.specs.Cut.{Areas, lentAreas, AfterCut}
 use Rattle.reading_runs.specs.Conclusion.{Conclusion, entriesBytes, listAfter, programAfter, restartArgumentsAfter, leaving, over, concluded}
-use Rattle.reading_runs.specs.On.{noLog, readOn, ReadsOn}
-use Rattle.reading_runs.proofs.Listed.{noted-list, program-last, arguments-last}
+use Rattle.reading_runs.specs.On.{toldOf, noLog, readOn, ReadsOn}
+use Rattle.reading_runs.proofs.Listed.{noteAt, partAt, homeAt, part-kept, part-noted, noted-list, program-last, arguments-last}
 
 -- from the areas z, the recoveries of a log lead to the areas y
 pub record Logged (z : Areas) (g : Log Entry Restarted) (made : ℕ) (y : Areas) : Type 0 where
@@ -144,28 +146,39 @@ module _ (chain arguments image faults : List ℕ) (x : Extent) (n : ℕ) (first
         some-left : (fs : List Fault) → rest fs (n - made) (o .0) (Ran.Cut k) (y .storage) ≡ rest fs (suc (n - (made + 1))) (o .0) (Ran.Cut k) (y .storage)
         some-left fs = ap (λ (m : ℕ). rest fs m (o .0) (Ran.Cut k) (y .storage)) (more-left n made few ne)
 
-        pub on-closed : (w : Csw) (y′ : Areas) → AfterCut chain arguments image faults x k made y (Closed w) y′ → Ends (made + 1) Ended w y′
+        -- the areas that the cut is lent, and those behind it
+        abbrev lentTo : Areas
+        lentTo = lentAreas (y .storage) (y .program) (y .restartArguments) (partAt made (y .list))
+
+        abbrev home : Areas → Areas
+        home u = lentAreas (u .storage) (u .program) (u .restartArguments) (homeAt made (y .list) (u .list))
+
+        pub on-closed : (w : Csw) (u : Areas) → AfterCut chain x k lentTo (Closed w) u → Ends (made + 1) Ended w (home u)
         unfolding concluded Reading.noted givenIn
-        on-closed w y′ (t, e, p, a, q) =
+        on-closed w u (t, e, p, a, q) =
             concludes y made (Ran.Cut k) o _
-            (λ fs. over-is z _ (made + 1) y′ (logged-finish z (o .0) made y (o .1) t y′ q p a) Ended w
+            (λ fs. over-is z _ (made + 1) (home u) (logged-finish z (o .0) made y (o .1) t (home u) (part-noted made (y .list) (u .list) t q) p a) Ended w
             ∙ ap shown (sym (some-left fs ∙ reading-finish _ _ _ (n - (made + 1)) (o .0) _ t _ e)))
 
-        pub on-halted : (m : ℕ) (y′ : Areas) → AfterCut chain arguments image faults x k made y (Halted m) y′ → Ends made (Stop m) (k .csw) y′
+        pub on-halted : (m : ℕ) (u : Areas) → AfterCut chain x k lentTo (Halted m) u → Ends made (Stop m) (k .csw) (home u)
         unfolding concluded givenIn
-        on-halted m y′ (s, e, f, same) =
+        on-halted m u (s, e, f, same) =
+            let kept : home u ≡ y = ap home same ∙ ap (lentAreas (y .storage) (y .program) (y .restartArguments)) (part-kept made (y .list)) in
             concludes y made (Ran.Cut k) o _
-            (λ fs. ap (λ (v : Areas). leaving (Outcome.Over (record { csw = k .csw; made = made; how = Stop m })) (v .storage) (v .program) (v .restartArguments) (v .list)) same
+            (λ fs. ap (λ (v : Areas). leaving (Outcome.Over (record { csw = k .csw; made = made; how = Stop m })) (v .storage) (v .program) (v .restartArguments) (v .list)) kept
             ∙ over-is z (o .0) made y (o .1) (Stop m) (k .csw)
             ∙ ap (λ (v : ℕ). over (o .0) (Stop v) (k .csw) (y .storage) (z .program) (z .restartArguments) (z .list)) f
             ∙ ap shown (sym (some-left fs ∙ reading-stop _ _ _ (n - (made + 1)) (o .0) _ s e)))
 
-        pub on-again : (r : Ran) (y′ : Areas) → AfterCut chain arguments image faults x k made y (Again r) y′ → Onward (made + 1) r y′
-        unfolding Reading.noted givenIn
-        on-again r y′ (t, b, e, p, a, q, runs) = (
-          record { made = o .0 .made ++ t ∷ []; built = o .0 .built ++ b ∷ [] },
-          logged-restart z (o .0) made y (o .1) t y′ q b p a,
-          λ fs l.
-              o .2 fs l ∙ some-left fs ∙ reading-restart _ _ _ (n - (made + 1)) (o .0) _ t b e
-              ∙ ap (λ (m : Result Limit Step.End Step.Cut). readOn fs (toldOf chain arguments image) x (n - (made + 1)) (record { made = o .0 .made ++ t ∷ []; built = o .0 .built ++ b ∷ [] }) m) (runs fs l),
-        )
+        pub on-again : (u : Areas) → AfterCut chain x k lentTo Again u
+            → (r : Ran) (after : List ℕ) → Runs chain arguments (u .program) (u .restartArguments) image faults restartLimit (Location.Restart 0) (u .storage) r after
+            → Onward (made + 1) r (lentAreas after (u .program) (u .restartArguments) (homeAt made (y .list) (u .list)))
+        unfolding Reading.noted givenIn restartedRun restartedIn
+        on-again u (t, e, q) r after runs =
+            let b : Restarted = record { program = u .program; restartArguments = u .restartArguments; storage = u .storage } in (
+              record { made = o .0 .made ++ t ∷ []; built = o .0 .built ++ b ∷ [] },
+              logged-restart z (o .0) made y (o .1) t _ (part-noted made (y .list) (u .list) t q) b refl refl,
+              λ fs l.
+                  o .2 fs l ∙ some-left fs ∙ reading-restart _ _ _ (n - (made + 1)) (o .0) _ t b e
+                  ∙ ap (λ (m : Result Limit Step.End Step.Cut). readOn fs (toldOf chain arguments image) x (n - (made + 1)) (record { made = o .0 .made ++ t ∷ []; built = o .0 .built ++ b ∷ [] }) m) (runs fs l),
+            )

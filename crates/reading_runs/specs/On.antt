@@ -13,10 +13,15 @@ use Rattle.trial.specs.declared.Ran.{Ran}
 use Rattle.trial.specs.Run.{ranOf}
 use Rattle.recovery.specs.Table.{rows}
 use Rattle.demand_three.specs.WholeReading.{Entry, Restarted, Whole, recoverCut, restartedRun, final, givenIn}
-use Rattle.reading_cut.specs.Cut.{Areas, toldOf}
+use Rattle.command.specs.Answer.{settingWith, lentOf}
+use Rattle.reading_cut.specs.Cut.{Areas}
 use Rattle.reading_runs.specs.declared.Over.{Over}
 use Rattle.reading_runs.specs.declared.Outcome.the-variants as Outcome
 use Rattle.reading_runs.specs.Conclusion.{leaving, concluded}
+
+-- what a run of the chain is told
+abbrev pub toldOf : (chain arguments image : List ℕ) → Step.Setting
+toldOf chain arguments image = settingWith (lentOf chain arguments [] []) image
 
 -- no recovery made yet, and no restart built
 abbrev pub noLog : Log Entry Restarted

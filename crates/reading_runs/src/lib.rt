@@ -1,6 +1,7 @@
 // All runs of a reading: run, recover, run on.
 use address::Extent;
 use channel::Csw;
+use channel::Location;
 use questions::Question;
 use reading_cut::Went;
 use trial::Ran;
@@ -88,19 +89,25 @@ pub fn read_on(
                 }
                 match reading_cut::after_cut(
                     chain,
-                    arguments,
-                    image,
-                    faults,
                     x,
                     k,
-                    made,
                     storage,
                     program,
                     restart_arguments,
-                    list,
+                    &mut list[made * 6..],
                 ) {
-                    Went::Again(r) => {
-                        ran = r;
+                    Went::Again => {
+                        ran = trial::run_from(
+                            chain,
+                            arguments,
+                            program,
+                            restart_arguments,
+                            image,
+                            faults,
+                            questions::RESTART_LIMIT,
+                            Location::Restart(0),
+                            storage,
+                        );
                         made += 1;
                     }
                     Went::Closed(w) => {

@@ -11,7 +11,6 @@ use lib.Dec.{eqb, leb}
 use lib.ListN.{length}
 use borrow.Author.Tests.{eqb-true, leb-true}
 use Rattle.base.specs.Choice.{pick, opt}
-use Rattle.base.specs.Bytes.{part}
 use Rattle.base.proofs.Choice.{pick-true, pick-false, and-left, and-right}
 use Rattle.questions.specs.declared.Question.{Question}
 use Rattle.questions.specs.declared.Question.the-variants as Question
@@ -26,11 +25,11 @@ use Rattle.report.specs.declared.Report as Code
 use Rattle.report.specs.declared.Reported.{Reported}
 use Rattle.report.specs.declared.Reported.the-variants as Reported
 use Rattle.report.specs.declared.Reported.the-variants.{Well}
-use Rattle.report.specs.Reported.{reportOf, reportedOf, seekOf, Bounded}
+use Rattle.report.specs.Reported.{reportOf, reportedOf, Bounded}
+use Rattle.report.specs.declared.Told.{Told}
+use Rattle.report.specs.Told.{Tells}
 use Rattle.recovered.specs.declared.Recovered.the-variants.{Refused}
 use Rattle.recovered.specs.Applied.{Applied, with, applied, givenOf}
-use Rattle.action_eight_ten.specs.declared.User.{User}
-use Rattle.action_eight_ten.specs.User.{userOf}
 use Rattle.recover.specs.Recover.{refusal, recoverAreas, recoverCall, Recovers}
 
 -- ---- question 1
@@ -105,10 +104,10 @@ module _ (chain report extent st p a : List ℕ) where
         unfolding refusal
         off-pack g = after-report _ (sym (pick-false _ _ (ap (soundExtent lastCylinder) (sym i) ∙ g)))
 
-        pub answers : (user : User) (out : Applied) → soundExtent lastCylinder x ≡ true → userOf user ≡ Recovery.userTrack lastCylinder (seekOf report (w .seek))
-            → Recovers chain (part report 3 27) (w .csw) (w .first) (w .mask) (w .tries) x user st p a out → out ≡ recoverCall chain report extent st p a
-        answers user out g u k =
+        pub answers : (t : Told) (out : Applied) → soundExtent lastCylinder x ≡ true → Tells (reportOf report w) t → Recovers x chain t st p a out
+            → out ≡ recoverCall chain report extent st p a
+        answers t out g u k =
             after-report out
-            (k (seekOf report (w .seek)) (sym u)
+            (k (reportOf report w) u
             ∙ ap (λ q. applied (Recovery.recover (givenOf rows chain q) (reportOf report w) st) st p a) i
             ∙ sym (pick-true _ _ (ap (soundExtent lastCylinder) (sym i) ∙ g)))

@@ -1,18 +1,19 @@
 // Recovery from one report.
-use action_eight_ten::User;
 use address::Extent;
-use channel::Csw;
-use drive::FileMask;
+use decision::Decision;
 use error_table::Chosen;
 use questions::Question;
 use recovered::Recovered;
 use report::Reported;
-use report::Seek;
+use report::Told;
 ghost use mathlib.Core.Path.{_≡_};
+ghost use Prim.Native.Nat.{_≤_};
+ghost use lib.ListN.{length};
+ghost use Rattle.error_table.specs.Table.{Chooses};
+ghost use Rattle.report.specs.Told.{ToldLow};
 ghost use Rattle.recovered.specs.Applied.{with, RecoveredLow};
-ghost use Rattle.action_eight_ten.specs.User.{UserOnPack};
-ghost use Rattle.recover.specs.Recover.{recoverCall, Told, ActsBy, Recovers, triedOf, recoverAreas, UserOf};
-ghost use Rattle.report.specs.Reported.{SeekInside};
+ghost use Rattle.decision.specs.Decision.{GoesLow, DecisionLow};
+ghost use Rattle.recover.specs.Recover.{recoverCall, ActsBy, DecidesIn, Recovers, triedOf, recoverAreas};
 
 // Actions 3 and 4: the chain is run again as long as there were fewer tries than the limit.
 fn tried(tries: usize, limit: usize) -> Recovered
@@ -24,110 +25,77 @@ fn tried(tries: usize, limit: usize) -> Recovered
     Recovered::ActionOne
 }
 
-// An action, by its code.
-fn act(
-    k: u8,
-    chain: &[u8],
-    storage: &mut [u8],
-    program: &mut [u8],
-    restart_arguments: &mut [u8],
-    sense: &[u8],
-    csw: Csw,
-    first: usize,
-    mask: FileMask,
-    tries: usize,
-    x: Extent,
-    user: User,
-) -> Recovered
-    requires { ⌜ Told (now chain) (now sense) (now program) (now «restart_arguments») csw user ⌝ }
-    ensures { λ r.
-        let after = with r (now (storage .exit)) (now (program .exit)) (now («restart_arguments» .exit)) in
-        ⌜ ActsBy k (now (chain .entry)) (now (sense .entry)) csw first mask tries x user
-        (now (storage .entry)) (now (program .entry)) (now («restart_arguments» .entry)) after ⌝ }
+// What an action decides, by its code.
+fn act(k: u8, chain: &[u8], size: usize, t: Told) -> Decision
+    requires { ⌜ length (now chain) ≤ 2048 ⌝ }
+    requires { ⌜ ToldLow t ⌝ }
+    ensures { λ r. ⌜ ActsBy k (now (chain .entry)) size t r ⌝ }
+    ensures { λ r. ⌜ GoesLow r ⌝ }
 {
     if k == 1 {
-        return Recovered::ActionOne;
+        return Decision::Answers(Recovered::ActionOne);
     }
     if k == 2 {
-        return Recovered::ActionTwo;
+        return Decision::Answers(Recovered::ActionTwo);
     }
     if k == 3 {
-        return tried(tries, 1);
+        return Decision::Answers(tried(t.tries, 1));
     }
     if k == 4 {
-        return tried(tries, 10);
+        return Decision::Answers(tried(t.tries, 10));
     }
     if k == 5 {
-        return action_five::five(
-            chain,
-            storage,
-            program,
-            restart_arguments,
-            sense,
-            csw,
-            first,
-            mask,
-            x,
-        );
+        return action_five::five(chain, size, t);
     }
     if k == 8 {
-        return action_eight_ten::eight(chain, program, restart_arguments, csw, mask, x, user);
+        return action_eight_ten::eight(chain, t);
     }
     if k == 10 {
-        return action_eight_ten::ten(chain, program, restart_arguments, csw, mask, x, user);
+        return action_eight_ten::ten(chain, t);
     }
-    Recovered::Refused(Question::Action)
+    Decision::Answers(Recovered::Refused(Question::Action))
 }
 
-// Questions 6 to 9 and the actions, for the sense bytes and what else a report says.
-pub fn recover_from(
+// The action of the error table.
+fn choose(t: Told) -> Chosen
+    ensures { λ r. ⌜ Chooses (t .sense .byte0) (t .sense .byte1) (t .sense .byte2) r ⌝ }
+{
+    let s = t.sense;
+    error_table::action_for(s.byte0, s.byte1, s.byte2)
+}
+
+// Questions 6 to 9 and the actions: what is decided with storage of `size` bytes, by what a report tells, in an extent.
+fn decide(chain: &[u8], size: usize, t: Told, x: Extent) -> Decision
+    requires { ⌜ length (now chain) ≤ 2048 ⌝ }
+    requires { ⌜ ToldLow t ⌝ }
+    ensures { λ r. ⌜ DecidesIn x (now (chain .entry)) size t r ⌝ }
+    ensures { λ r. ⌜ DecisionLow r ⌝ }
+{
+    match choose(t) {
+        Chosen::NoRow => Decision::Answers(Recovered::Refused(Question::Row)),
+        Chosen::Action(k) => decision::bound(x, act(k, chain, size, t)),
+    }
+}
+
+// Recovery by what a report tells: decided, then carried out.
+pub fn recover_told(
     chain: &[u8],
+    t: Told,
+    x: Extent,
     storage: &mut [u8],
     program: &mut [u8],
     restart_arguments: &mut [u8],
-    sense: &[u8],
-    csw: Csw,
-    first: usize,
-    mask: FileMask,
-    tries: usize,
-    x: Extent,
-    user: User,
 ) -> Recovered
-    requires { ⌜ Told (now chain) (now sense) (now program) (now «restart_arguments») csw user ⌝ }
+    requires { ⌜ length (now chain) ≤ 2048 ⌝ }
+    requires { ⌜ ToldLow t ⌝ }
+    requires { ⌜ length (now program) ≡ 64 ⌝ }
+    requires { ⌜ length (now «restart_arguments») ≡ 16 ⌝ }
     ensures { λ r.
         let after = with r (now (storage .exit)) (now (program .exit)) (now («restart_arguments» .exit)) in
-        ⌜ Recovers (now (chain .entry)) (now (sense .entry)) csw first mask tries x user
-        (now (storage .entry)) (now (program .entry)) (now («restart_arguments» .entry)) after ⌝ }
+        ⌜ Recovers x (now (chain .entry)) t (now (storage .entry)) (now (program .entry)) (now («restart_arguments» .entry)) after ⌝ }
 {
-    match error_table::action_for(sense[0], sense[1], sense[2]) {
-        Chosen::NoRow => Recovered::Refused(Question::Row),
-        Chosen::Action(k) => act(
-            k,
-            chain,
-            storage,
-            program,
-            restart_arguments,
-            sense,
-            csw,
-            first,
-            mask,
-            tries,
-            x,
-            user,
-        ),
-    }
-}
-
-// The track of the user's seek argument in a report.
-fn user_of(report: &[u8], seek: Seek) -> User
-    requires { ⌜ SeekInside (now report) seek ⌝ }
-    ensures { λ r. ⌜ UserOf (now (report .entry)) seek r ⌝ }
-    ensures { λ r. ⌜ UserOnPack r ⌝ }
-{
-    match seek {
-        Seek::At(a) => action_eight_ten::user_track(report, a),
-        Seek::Absent => User::Missing,
-    }
+    let d = decide(chain, storage.len(), t, x);
+    decision::carry_out(d, storage, program, restart_arguments)
 }
 
 // Question 1, from the lengths of the areas.
@@ -186,21 +154,6 @@ pub fn recover(
     if !x.on_pack(address::LAST_CYLINDER) {
         return Recovered::Refused(Question::Extent);
     }
-    let csw = r.csw;
-    let mask = r.mask;
-    let seek = r.seek;
-    let user = user_of(report, seek);
-    recover_from(
-        chain,
-        storage,
-        program,
-        restart_arguments,
-        &report[3..27],
-        csw,
-        r.first,
-        mask,
-        r.tries,
-        x,
-        user,
-    )
+    let t = report::tell(report, r);
+    recover_told(chain, t, x, storage, program, restart_arguments)
 }

@@ -1,1 +1,2 @@
 pub mod Fetched
+pub mod Checks

@@ -1,14 +1,10 @@
 -- What recovery answers, as the code has it: storage and the restart areas stand apart from the answer.
 use Prim.Native.Nat.{ℕ}
-use mathlib.Core.Option.{Option}
 use mathlib.Core.List.{List}
 use Rattle.address.specs.declared.Extent.{Extent}
 use Rattle.address.specs.Order.{lastCylinder}
-use Rattle.channel.specs.declared.Csw.{Csw}
 use Rattle.location.specs.Low.{CswLow}
-use Rattle.drive.specs.declared.FileMask.{FileMask}
 use Rattle.recovery.specs.Table.{Row}
-use Rattle.recovery.specs.Report.{Report}
 use Rattle.recovery.specs.Recovery as Recovery
 use Rattle.recovery.specs.Recovery.{Given}
 use Rattle.recovered.specs.declared.Kind.{Kind}
@@ -68,7 +64,3 @@ RecoveredLow (Restart k) = Unit {0}
 -- chain and extent, on the pack that is built in
 abbrev pub givenOf : List Row → (chain : List ℕ) → Extent → Given
 givenOf rows chain x = record { last = lastCylinder; rows = rows; chain = chain; extent = x }
-
--- a report from its parts
-abbrev pub reportWith : (sense : List ℕ) → Csw → ℕ → FileMask → Option (List ℕ) → ℕ → Report
-reportWith sense csw first mask seek tries = record { sense = sense; csw = csw; first = first; mask = mask; seek = seek; tries = tries }

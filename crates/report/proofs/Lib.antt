@@ -1,3 +1,4 @@
 pub mod Places
+pub mod Users
 pub mod Behind
 pub mod Front

@@ -1,4 +1,7 @@
-// The report of a unit check: its tagged fields, and question 4.
+// The report of a unit check: its tagged fields, question 4, and what it tells recovery.
+use address::Address;
+use base::FromEnd;
+use base::FromFront;
 use channel::Csw;
 use drive::FileMask;
 use fields::Wanted;
@@ -10,7 +13,8 @@ ghost use Rattle.base.specs.Bytes.{part};
 ghost use Rattle.drive.specs.declared.FileMask.the-variants.{Unset};
 ghost use Rattle.recovery.specs.Report.{reportFrom, cswFrom, withMask, withSeek, withTries};
 ghost use Rattle.report.specs.declared.Seek.the-variants.{Absent};
-ghost use Rattle.report.specs.Reported.{sizedAt, soFar, reportedOf, Reads, Bounds, Bounded};
+ghost use Rattle.report.specs.Reported.{sizedAt, soFar, reportOf, reportedOf, Reads, SeekInside, Bounds, Bounded};
+ghost use Rattle.report.specs.Told.{UserAt, UserOf, UserOnPack, SenseTells, Tells, ToldLow};
 
 // The place of the user's seek argument, six bytes.
 pub enum Seek {
@@ -160,4 +164,113 @@ pub fn read(report: &[u8]) -> Reported
         return Reported::Refused(Question::Report);
     }
     with_mask(report, rest, csw_in(report, csw), base::be16(report, first))
+}
+
+// ---- what it tells recovery
+
+// What recovery reads in the 24 sense bytes: bytes 0 to 2, by which the error table chooses; byte 7, format and message; the track
+// in 8 to 11, the record's number in 12, its sector in 13; restart displacement, error displacement and pattern from 15 on.
+pub struct Sense {
+    pub track: Address,
+    pub restart: FromFront,
+    pub error: FromEnd,
+    pub byte0: u8,
+    pub byte1: u8,
+    pub byte2: u8,
+    pub format: u8,
+    pub number: u8,
+    pub sector: u8,
+    pub pattern0: u8,
+    pub pattern1: u8,
+    pub pattern2: u8,
+}
+
+// The track of the user's seek argument, if the report has one that names a track of the pack.
+pub enum User {
+    Track(Address),
+    Missing,
+}
+
+// What a report tells recovery, by value.
+pub struct Told {
+    pub csw: Csw,
+    pub first: usize,
+    pub tries: usize,
+    pub sense: Sense,
+    pub mask: FileMask,
+    pub user: User,
+}
+
+// The user's seek argument, six bytes of a report.
+fn user_track(report: &[u8], at: usize) -> User
+    requires { ⌜ at + 6 ≤ length (now report) ⌝ }
+    ensures { λ r. ⌜ UserAt (now (report .entry)) at r ⌝ }
+    ensures { λ r. ⌜ UserOnPack r ⌝ }
+{
+    if base::be16(report, at) != 0 {
+        return User::Missing;
+    }
+    let a = Address {
+        cylinder: base::be16(report, at + 2),
+        head: base::be16(report, at + 4),
+    };
+    if !a.on_pack(address::LAST_CYLINDER) {
+        return User::Missing;
+    }
+    User::Track(a)
+}
+
+// The track of the user's seek argument in a report.
+fn user_of(report: &[u8], seek: Seek) -> User
+    requires { ⌜ SeekInside (now report) seek ⌝ }
+    ensures { λ r. ⌜ UserOf (now (report .entry)) seek r ⌝ }
+    ensures { λ r. ⌜ UserOnPack r ⌝ }
+{
+    match seek {
+        Seek::At(a) => user_track(report, a),
+        Seek::Absent => User::Missing,
+    }
+}
+
+// The 24 sense bytes.
+fn sense_of(sense: &[u8]) -> Sense
+    requires { ⌜ length (now sense) ≡ 24 ⌝ }
+    ensures { λ r. ⌜ SenseTells (now (sense .entry)) r ⌝ }
+{
+    Sense {
+        byte0: sense[0],
+        byte1: sense[1],
+        byte2: sense[2],
+        format: sense[7],
+        track: Address {
+            cylinder: base::be16(sense, 8),
+            head: base::be16(sense, 10),
+        },
+        number: sense[12],
+        sector: sense[13],
+        restart: FromFront(base::be24(sense, 15)),
+        error: FromEnd(base::be16(sense, 18)),
+        pattern0: sense[20],
+        pattern1: sense[21],
+        pattern2: sense[22],
+    }
+}
+
+// What a report tells, once its fields are found.
+pub fn tell(report: &[u8], r: Report) -> Told
+    requires { ⌜ Bounds (now report) r ⌝ }
+    ensures { λ t. ⌜ Tells (reportOf (now (report .entry)) r) t ⌝ }
+    ensures { λ t. ⌜ ToldLow t ⌝ }
+{
+    let csw = r.csw;
+    let mask = r.mask;
+    let seek = r.seek;
+    Told {
+        sense: sense_of(&report[3..27]),
+        csw: csw,
+        first: r.first,
+        mask: mask,
+        user: user_of(report, seek),
+        tries: r.tries,
+    }
 }

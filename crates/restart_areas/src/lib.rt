@@ -125,8 +125,8 @@ fn mask_byte(mask: FileMask) -> u8
     }
 }
 
-// The arguments of seek, mask and sector.
-fn begin_arguments(restart_arguments: &mut [u8], a: Address, mask: FileMask, sector: u8)
+// The arguments of seek, mask and sector: with sector 0, the restart arguments of actions 8, 10 and 10A.
+pub fn begin_arguments(restart_arguments: &mut [u8], a: Address, mask: FileMask, sector: u8)
     requires { ⌜ length (now «restart_arguments») ≡ 16 ⌝ }
     requires { ⌜ a .cylinder < 65536 ⌝ }
     requires { ⌜ a .head < 65536 ⌝ }
@@ -149,14 +149,4 @@ pub fn search_arguments(restart_arguments: &mut [u8], a: Address, mask: FileMask
     put_address(restart_arguments, 8, a);
     let bytes = [r];
     place(restart_arguments, 12, &bytes);
-}
-
-// The restart arguments of actions 8, 10 and 10A.
-pub fn home_arguments(restart_arguments: &mut [u8], a: Address, mask: FileMask)
-    requires { ⌜ length (now «restart_arguments») ≡ 16 ⌝ }
-    requires { ⌜ a .cylinder < 65536 ⌝ }
-    requires { ⌜ a .head < 65536 ⌝ }
-    ensures { λ _. ⌜ now («restart_arguments» .exit) ≡ restartArgumentsOf a mask 0 [] ⌝ }
-{
-    begin_arguments(restart_arguments, a, mask, 0);
 }

@@ -31,12 +31,12 @@ use Rattle.trial.specs.Run.{Runs}
 use Rattle.trial.proofs.Calls.{short-chain, kept-out}
 use Rattle.recovery.specs.Table.{rows}
 use Rattle.demand_three.specs.WholeReading.{wholeReading}
-use Rattle.reading_cut.specs.Cut.{Areas, lentAreas, toldOf}
+use Rattle.reading_cut.specs.Cut.{Areas, lentAreas}
 use Rattle.reading_runs.specs.declared.Over.{Over}
 use Rattle.reading_runs.specs.declared.Outcome.the-variants as Outcome
 use Rattle.reading_runs.specs.Conclusion.{Conclusion, leaving, concluded}
 use Rattle.whole_reading.specs.Reading.{readingAreas, readingCall, Answers}
-use Rattle.reading_runs.specs.On.{noLog, readOn, ReadsOn}
+use Rattle.reading_runs.specs.On.{toldOf, noLog, readOn, ReadsOn}
 
 -- ---- question 1
 

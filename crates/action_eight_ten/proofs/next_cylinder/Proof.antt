@@ -1,7 +1,7 @@
 -- `action_eight_ten::next_cylinder` meets its contract: a cylinder of the pack is low. Assumes nothing.
 use native.Mathlib.Omega.{arith}
 use mathlib.Core.Path.{refl}
-use Rattle.action_eight_ten.proofs.Tracks.{pack-low}
+use Rattle.decision.proofs.Bounded.{pack-low}
 use Rattle.action_eight_ten.proofs.next_cylinder.Statement.{statement}
 use Rattle.action_eight_ten.proofs.next_cylinder.Tie as tie
 

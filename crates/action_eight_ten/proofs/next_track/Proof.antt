@@ -1,7 +1,8 @@
 -- `action_eight_ten::next_track` meets its contract: by the head. Assumes nothing.
 use native.Mathlib.Omega.{arith}
 use mathlib.Core.Path.{_∙_}
-use Rattle.action_eight_ten.proofs.Tracks.{pack-low, head-carried, head-up}
+use Rattle.action_eight_ten.proofs.Tracks.{head-carried, head-up}
+use Rattle.decision.proofs.Bounded.{pack-low}
 use borrow.Author.Needs.{needs}
 use Rattle.action_eight_ten.proofs.next_track.Statement.{statement}
 use Rattle.action_eight_ten.proofs.next_track.Tie as tie

@@ -13,11 +13,11 @@ chains-command-requires c κs = search needs
 
 returns : tie.Need-returns
 returns c =
-    let a = c .before .before .before .before .before .args in
-    last-seek (a .chain .now) (a .csw) (a .mask) (a .x) (a .a) (a .c) (a .program .now) (a .restart-arguments .now) (sym (c .before .chains-command .ensures) ∙ not-true _ (c .if1 .taken))
+    let a = c .before .before .before .args in
+    (last-seek (a .chain .now) (a .csw) (a .mask) (a .a) (a .c) (sym (c .before .chains-command .ensures) ∙ not-true _ (c .if1 .taken)), tt)
 
-sub-t16 : tie.Need-sub-t16
-sub-t16 c = search needs
+sub-t14 : tie.Need-sub-t14
+sub-t14 c = search needs
 
 slice-aggregate-resolve : tie.Need-slice-aggregate-resolve
 slice-aggregate-resolve c = search needs
@@ -39,21 +39,21 @@ enum-known-l-2 c = search needs
 
 home-requires : tie.Need-home-requires
 home-requires c κs =
-    let at-l2 = c .before .before .before in
+    let at-l2 = c .before in
     let got = at-l2 .before .before .before in
     let there = rw (got .l .given .1, at-l2 .l2 .given .1) at (got .before .before .resolve .ensures .1) in
-    let pre = got .before .before .before .before .before .before .before .before .before .before .pre .0 in
-    (pre .program-full, (pre .restart-arguments-full, omega (arith, there .0, pre .chain-short)))
+    let short = got .before .before .before .before .before .before .before .before .pre .0 in
+    (omega (arith, there .0, short), refl)
 
 returns-2 : tie.Need-returns-2
 unfolding onlyChain
 returns-2 c =
     let call = c .before .before in
     let test = call .before .before .before in
-    let a = test .before .before .before .before .before .args in
+    let a = test .before .before .before .args in
     let on = sym (test .before .chains-command .ensures) ∙ not-false _ (test .if1 .left) in
     let q = rw (c .enum-told .given .1) at (call .resolve .ensures .0) in
-    next-broken (a .chain .now) (a .csw) (a .mask) (a .x) (a .a) (a .c) (a .program .now) (a .restart-arguments .now) on _ (q (onlyChain (a .chain .now)) refl refl)
+    (next-broken (a .chain .now) (a .csw) (a .mask) (a .a) (a .c) on _ (q (onlyChain (a .chain .now)) refl refl), tt)
 
 returns-3 : tie.Need-returns-3
 unfolding onlyChain
@@ -61,29 +61,23 @@ returns-3 c =
     let at-l = c .before .before .before in
     let call = at-l .before .before in
     let test = call .before .before .before in
-    let a = test .before .before .before .before .before .args in
+    let a = test .before .before .before .args in
     let on = sym (test .before .chains-command .ensures) ∙ not-false _ (test .if1 .left) in
     let q = rw (at-l .l .given .1, c .enum-told2 .given .1) at (call .resolve .ensures .0) in
-    next-restart (a .chain .now) (a .csw) (a .mask) (a .x) (a .a) (a .c) (a .program .now) (a .restart-arguments .now) on _ _ (q (onlyChain (a .chain .now)) refl refl)
-
-same-length : tie.Need-same-length
-same-length c = search needs
-
-same-length-2 : tie.Need-same-length-2
-same-length-2 c = search needs
+    (next-restart (a .chain .now) (a .csw) (a .mask) (a .a) (a .c) on _ _ (q (onlyChain (a .chain .now)) refl refl), tt)
 
 returns-4 : tie.Need-returns-4
 unfolding onlyChain
 returns-4 c =
-    let at-home = c .before .before .before .before in
-    let at-l2 = at-home .before .before .before .before in
+    let at-l2 = c .before .before in
     let got = at-l2 .before .before .before in
     let call = got .before .before in
     let test = call .before .before .before in
-    let a = test .before .before .before .before .before .args in
+    let a = test .before .before .before .args in
     let on = sym (test .before .chains-command .ensures) ∙ not-false _ (test .if1 .left) in
     let q = rw (got .l .given .1, at-l2 .l2 .given .1) at (call .resolve .ensures .0) in
-    next-chain (a .chain .now) (a .csw) (a .mask) (a .x) (a .a) (a .c) (a .program .now) (a .restart-arguments .now) on _ _ _ _ _ (q (onlyChain (a .chain .now)) refl refl) (at-home .home .ensures)
+    let home = c .home .ensures in
+    (next-chain (a .chain .now) (a .csw) (a .mask) (a .a) (a .c) on _ _ _ (q (onlyChain (a .chain .now)) refl refl) (home .0), home .1)
 
 pub seek-restart-spec : {M : Type 1} → statement M
 seek-restart-spec =
@@ -91,7 +85,7 @@ seek-restart-spec =
     (tie.spec
     chains-command-requires
     returns
-    sub-t16
+    sub-t14
     slice-aggregate-resolve
     resolve-requires
     enum-told
@@ -101,6 +95,4 @@ seek-restart-spec =
     home-requires
     returns-2
     returns-3
-    same-length
-    same-length-2
     returns-4)

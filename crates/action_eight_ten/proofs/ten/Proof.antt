@@ -1,6 +1,6 @@
 -- `action_eight_ten::ten` meets its contract: the user's track, the interrupted CCW, then whether that is a seek. Assumes nothing.
 use native.Mathlib.Omega.{arith}
-use mathlib.Core.Path.{ap, sym, _∙_}
+use mathlib.Core.Path.{refl, ap, sym, _∙_}
 use Rattle.recovery.specs.Recovery.{isSeek}
 use Rattle.action_eight_ten.proofs.Restarts.{ten-no-track, ten-no-ccw, ten-seek, ten-on}
 use borrow.Author.Needs.{needs}
@@ -14,9 +14,7 @@ enum-told : tie.Need-enum-told
 enum-told c = search needs
 
 returns : tie.Need-returns
-returns c =
-    let a = c .before .before .before .before .before .args in
-    ten-no-track (a .chain .now) (a .csw) (a .mask) (a .x) (a .user) (a .program .now) (a .restart-arguments .now) (c .enum-told .given .1)
+returns c = (ten-no-track _ (c .before .before .before .before .args .t) (c .enum-told .given .1), tt)
 
 interrupted-requires : tie.Need-interrupted-requires
 interrupted-requires c κs = search needs
@@ -29,10 +27,8 @@ enum-told-2 c = search needs
 
 returns-2 : tie.Need-returns-2
 returns-2 c =
-    let at-user = c .before .before .before .before in
-    let start = at-user .before .before .before .before .before in
-    let a = start .args in
-    ten-no-ccw (a .chain .now) (a .csw) (a .mask) (a .x) (a .user) (a .program .now) (a .restart-arguments .now) _ (at-user .user .given .1) (rw (c .enum-told2 .given .1) at (c .before .before .interrupted .ensures .0))
+    let a = c .before .before .before .before .before .before .before .before .args in
+    (ten-no-ccw _ (a .t) _ (c .before .before .before .before .user .given .1) (rw (c .enum-told2 .given .1) at (c .before .before .interrupted .ensures .0)), tt)
 
 command-of-requires : tie.Need-command-of-requires
 command-of-requires c κs = search needs
@@ -42,60 +38,48 @@ is-seek-requires c κs = search needs
 
 seek-restart-requires : tie.Need-seek-restart-requires
 seek-restart-requires c κs =
-    let held = c .before .before .before .before .before .before in
+    let held = c .before .before .before .before in
     let there = rw (held .c .given .1) at (held .before .before .interrupted .ensures .1) in
-    (held .before .before .before .before .before .before .before .before .before .pre .0, there .0)
-
-same-length : tie.Need-same-length
-same-length c = search needs
-
-same-length-2 : tie.Need-same-length-2
-same-length-2 c = search needs
+    let pre = held .before .before .before .before .before .before .before .before .pre in
+    (pre .0, (pre .1 .csw-low .address, there .0))
 
 returns-3 : tie.Need-returns-3
 returns-3 c =
-    let at-seek-restart = c .before .before .before .before in
-    let test = at-seek-restart .before .before .before in
+    let test = c .before in
     let held = test .before .before .before .before in
     let track = held .before .before .before .before in
-    let a = track .before .before .before .before .before .args in
+    let a = track .before .before .before .before .args in
     let there = rw (held .c .given .1) at (held .before .before .interrupted .ensures .0) in
     let yes = ap isSeek (sym (test .before .before .command-of .ensures)) ∙ sym (test .before .is-seek .ensures) ∙ test .if1 .taken in
-    ten-seek (a .chain .now) (a .csw) (a .mask) (a .x) (a .user) (a .program .now) (a .restart-arguments .now) _ (track .user .given .1) _ there _ _ _ yes (at-seek-restart .seek-restart .ensures)
+    let seek = c .seek-restart .ensures in
+    (ten-seek _ (a .t) _ (track .user .given .1) _ there _ yes (seek .0), seek .1)
 
 next-track-requires : tie.Need-next-track-requires
-next-track-requires c κs = let track = c .before .before .before .before .before .before .before .before in rw (track .user .given .1) at (track .before .before .before .before .before .pre .1)
+next-track-requires c κs = let track = c .before .before .before .before .before .before .before .before in rw (track .user .given .1) at (track .before .before .before .before .pre .1 .user-on)
 
-sub-to : tie.Need-sub-to
-sub-to c =
+sub-home : tie.Need-sub-home
+sub-home c =
     let held = c .before .before .before .before .before .before in
     let there = rw (held .c .given .1) at (held .before .before .interrupted .ensures .1) in
-    omega (arith, there .0)
+    there .0
 
 home-requires : tie.Need-home-requires
 home-requires c κs =
-    let held = c .before .before .before .before .before .before .before .before in
+    let held = c .before .before .before .before .before .before in
     let there = rw (held .c .given .1) at (held .before .before .interrupted .ensures .1) in
-    let pre = held .before .before .before .before .before .before .before .before .before .pre .0 in
-    (pre .program-full, (pre .restart-arguments-full, omega (arith, there .1, pre .chain-short)))
-
-same-length-3 : tie.Need-same-length-3
-same-length-3 c = search needs
-
-same-length-4 : tie.Need-same-length-4
-same-length-4 c = search needs
+    let short = held .before .before .before .before .before .before .before .before .pre .0 in
+    (omega (arith, there .1, short), refl)
 
 returns-4 : tie.Need-returns-4
 returns-4 c =
-    let at-home = c .before .before .before .before in
-    let at-next-track = at-home .before .before .before .before in
-    let test = at-next-track .before in
+    let test = c .before .before .before in
     let held = test .before .before .before .before in
     let track = held .before .before .before .before in
-    let a = track .before .before .before .before .before .args in
+    let a = track .before .before .before .before .args in
     let there = rw (held .c .given .1) at (held .before .before .interrupted .ensures .0) in
     let no = ap isSeek (sym (test .before .before .command-of .ensures)) ∙ sym (test .before .is-seek .ensures) ∙ test .if1 .left in
-    ten-on (a .chain .now) (a .csw) (a .mask) (a .x) (a .user) (a .program .now) (a .restart-arguments .now) _ (track .user .given .1) _ there _ _ _ _ no (at-next-track .next-track .ensures) (at-home .home .ensures)
+    let home = c .home .ensures in
+    (ten-on _ (a .t) _ (track .user .given .1) _ there _ _ no (c .before .before .next-track .ensures) (home .0), home .1)
 
 pub ten-spec : {M : Type 1} → statement M
 ten-spec =
@@ -111,12 +95,8 @@ ten-spec =
     command-of-requires
     is-seek-requires
     seek-restart-requires
-    same-length
-    same-length-2
     returns-3
     next-track-requires
-    sub-to
+    sub-home
     home-requires
-    same-length-3
-    same-length-4
     returns-4)

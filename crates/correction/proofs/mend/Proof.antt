@@ -23,8 +23,8 @@ unfolding mended
 returns c =
     let at-mend-at2 = c .before .before .before .before .before .before in
     let at-mend-at = at-mend-at2 .before .before .before .before in
-    let start = at-mend-at .before .before .before in
-    let s = start .args .s in
+    let start = at-mend-at .before .before .before .before in
+    let s = start .args .c .stayed in
     c .before .before .mend-at3 .ensures
     ∙ ap (mend (placeOf (s .third)) _) (at-mend-at2 .mend-at2 .ensures ∙ ap (mend (placeOf (s .second)) _) (at-mend-at .mend-at .ensures))
 

@@ -1,8 +1,4 @@
 -- `reading_cut::after_cut` meets its contract: by what recovery answers. Assumes nothing.
-use native.Mathlib.Omega.{arith}
-use mathlib.Core.Path.{_≡_}
-use lib.ListN.{length}
-use Rattle.channel.specs.Ccw.{addressOf}
 use Rattle.reading_cut.proofs.Answered.{again, closed, closed-low, corrected, refused, one, two, repeated}
 use borrow.Author.Needs.{needs}
 use Rattle.reading_cut.proofs.after_cut.Statement.{statement}
@@ -20,15 +16,32 @@ action-number-requires c κs = search needs
 note-requires : tie.Need-note-requires
 note-requires c κs = search needs
 
-run-from-requires : tie.Need-run-from-requires
-unfolding addressOf
-run-from-requires c κs =
-    let at-program = c .before .before .before .before .before .before .before .before .before .before .before .before .before .before in
-    let at-recover-cut = at-program .before .before .before in
-    let start = at-recover-cut .before .before .before .before .before .before .before .before .before .before .before .before in
-    let begun = start .pre .0 in
-    let same : length (at-recover-cut .recover-cut .last .1 .1 .0) ≡ length (start .args .program .now) = at-program .program .given in
-    (record { short = (begun .short .0, omega (arith, same, begun .short .1)); whole = begun .whole; listed = begun .listed }, omega arith)
+enum-known-w : tie.Need-enum-known-w
+enum-known-w c = search needs
+
+note-requires-2 : tie.Need-note-requires-2
+note-requires-2 c κs = search needs
+
+enum-told : tie.Need-enum-told
+enum-told c = search needs
+
+note-requires-3 : tie.Need-note-requires-3
+note-requires-3 c κs = search needs
+
+enum-known-q : tie.Need-enum-known-q
+enum-known-q c = search needs
+
+number-requires : tie.Need-number-requires
+number-requires c κs = search needs
+
+enum-told-2 : tie.Need-enum-told-2
+enum-told-2 c = search needs
+
+enum-told-3 : tie.Need-enum-told-3
+enum-told-3 c = search needs
+
+enum-told-4 : tie.Need-enum-told-4
+enum-told-4 c = search needs
 
 same-length : tie.Need-same-length
 same-length c = search needs
@@ -44,20 +57,11 @@ same-length-4 c = search needs
 
 returns : tie.Need-returns
 returns c =
-    let at-note = c .before .before .before .before .before .before .before .before in
-    let at-action-number = at-note .before in
-    let at-kind = at-action-number .before .before .before in
+    let at-note = c .before .before in
+    let at-kind = at-note .before .before .before .before in
     let at-recover-cut = at-kind .before .before .before .before .before .before .before .before in
-    let start = at-recover-cut .before .before .before .before .before .before .before .before .before .before .before .before in
-    let a = start .args in
-    let call = at-recover-cut .recover-cut in
-    (again (a .chain .now) (a .x) (a .k) (a .storage .now) (a .program .now) (a .restart-arguments .now) (a .arguments .now) (a .image .now) (a .faults .now) (a .list .now) (a .made) _ _ _ _ _ (at-action-number .action-number .result) (rw (at-kind .kind .given .1) at (call .ensures)) (at-action-number .action-number .ensures) (at-note .note .ensures) (c .before .before .run-from .result) _ (c .before .before .run-from .ensures .0), c .before .before .run-from .ensures .1)
-
-enum-known-w : tie.Need-enum-known-w
-enum-known-w c = search needs
-
-note-requires-2 : tie.Need-note-requires-2
-note-requires-2 c κs = search needs
+    let a = at-recover-cut .before .before .before .before .before .before .before .before .before .args in
+    (again (a .chain .now) (a .x) (a .k) (a .storage .now) (a .program .now) (a .restart-arguments .now) (a .entry .now) _ _ _ _ _ _ (rw (at-kind .kind .given .1) at (at-recover-cut .recover-cut .ensures)) (at-note .before .action-number .ensures) (at-note .note .ensures), tt)
 
 same-length-5 : tie.Need-same-length-5
 same-length-5 c = search needs
@@ -75,17 +79,10 @@ returns-2 : tie.Need-returns-2
 returns-2 c =
     let at-w = c .before .before .before .before .before in
     let at-recover-cut = at-w .before .before .before .before .before .before .before .before in
-    let start = at-recover-cut .before .before .before .before .before .before .before .before .before .before .before .before in
+    let start = at-recover-cut .before .before .before .before .before .before .before .before .before in
     let a = start .args in
-    let call = at-recover-cut .recover-cut in
-    let done = rw (at-w .w .given .1) at (call .ensures) in
-    (closed (a .chain .now) (a .x) (a .k) (a .storage .now) (a .program .now) (a .restart-arguments .now) (a .arguments .now) (a .image .now) (a .faults .now) (a .list .now) (a .made) _ _ _ _ _ done (c .before .before .note2 .ensures), closed-low (a .chain .now) (a .x) (a .k) (a .storage .now) (a .program .now) (a .restart-arguments .now) _ _ _ _ (start .pre .1 .1 .0 .csw-low) done)
-
-enum-told : tie.Need-enum-told
-enum-told c = search needs
-
-note-requires-3 : tie.Need-note-requires-3
-note-requires-3 c κs = search needs
+    let done = rw (at-w .w .given .1) at (at-recover-cut .recover-cut .ensures) in
+    (closed (a .chain .now) (a .x) (a .k) (a .storage .now) (a .program .now) (a .restart-arguments .now) (a .entry .now) _ _ _ _ _ done (c .before .before .note2 .ensures), closed-low (a .chain .now) (a .x) (a .k) (a .storage .now) (a .program .now) (a .restart-arguments .now) _ _ _ _ (start .pre .1 .0 .csw-low) done)
 
 same-length-9 : tie.Need-same-length-9
 same-length-9 c = search needs
@@ -101,19 +98,11 @@ same-length-12 c = search needs
 
 returns-3 : tie.Need-returns-3
 returns-3 c =
-    let at-note3 = c .before .before .before in
-    let at-enum-told = at-note3 .before .before in
+    let at-enum-told = c .before .before .before .before .before in
     let at-recover-cut = at-enum-told .before .before .before .before .before .before .before .before in
-    let start = at-recover-cut .before .before .before .before .before .before .before .before .before .before .before .before in
+    let start = at-recover-cut .before .before .before .before .before .before .before .before .before in
     let a = start .args in
-    let call = at-recover-cut .recover-cut in
-    (corrected (a .chain .now) (a .x) (a .k) (a .storage .now) (a .program .now) (a .restart-arguments .now) (a .arguments .now) (a .image .now) (a .faults .now) (a .list .now) (a .made) _ _ _ _ (rw (at-enum-told .enum-told .given .1) at (call .ensures)) (at-note3 .note3 .ensures), start .pre .1 .1 .0 .csw-low)
-
-enum-known-q : tie.Need-enum-known-q
-enum-known-q c = search needs
-
-number-requires : tie.Need-number-requires
-number-requires c κs = search needs
+    (corrected (a .chain .now) (a .x) (a .k) (a .storage .now) (a .program .now) (a .restart-arguments .now) (a .entry .now) _ _ _ _ (rw (at-enum-told .enum-told .given .1) at (at-recover-cut .recover-cut .ensures)) (c .before .before .before .note3 .ensures), start .pre .1 .0 .csw-low)
 
 same-length-13 : tie.Need-same-length-13
 same-length-13 c = search needs
@@ -127,13 +116,8 @@ same-length-15 c = search needs
 returns-4 : tie.Need-returns-4
 returns-4 c =
     let at-recover-cut = c .before .before .before .before .before .before .before .before .before .before in
-    let start = at-recover-cut .before .before .before .before .before .before .before .before .before .before .before .before in
-    let a = start .args in
-    let call = at-recover-cut .recover-cut in
-    (refused (a .chain .now) (a .x) (a .k) (a .storage .now) (a .program .now) (a .restart-arguments .now) (a .arguments .now) (a .image .now) (a .faults .now) (a .list .now) (a .made) _ _ _ (a .list .now) _ _ (rw (c .before .before .q .given .1) at (call .ensures)) (c .number .ensures), tt)
-
-enum-told-2 : tie.Need-enum-told-2
-enum-told-2 c = search needs
+    let a = at-recover-cut .before .before .before .before .before .before .before .before .before .args in
+    (refused (a .chain .now) (a .x) (a .k) (a .storage .now) (a .program .now) (a .restart-arguments .now) (a .entry .now) _ _ _ (a .entry .now) _ _ (rw (c .before .before .q .given .1) at (at-recover-cut .recover-cut .ensures)) (c .number .ensures), tt)
 
 same-length-16 : tie.Need-same-length-16
 same-length-16 c = search needs
@@ -147,13 +131,8 @@ same-length-18 c = search needs
 returns-5 : tie.Need-returns-5
 returns-5 c =
     let at-recover-cut = c .before .before .before .before .before .before .before .before in
-    let start = at-recover-cut .before .before .before .before .before .before .before .before .before .before .before .before in
-    let a = start .args in
-    let call = at-recover-cut .recover-cut in
-    (one (a .chain .now) (a .x) (a .k) (a .storage .now) (a .program .now) (a .restart-arguments .now) (a .arguments .now) (a .image .now) (a .faults .now) (a .list .now) (a .made) _ _ _ (a .list .now) (rw (c .enum-told2 .given .1) at (call .ensures)), tt)
-
-enum-told-3 : tie.Need-enum-told-3
-enum-told-3 c = search needs
+    let a = at-recover-cut .before .before .before .before .before .before .before .before .before .args in
+    (one (a .chain .now) (a .x) (a .k) (a .storage .now) (a .program .now) (a .restart-arguments .now) (a .entry .now) _ _ _ (a .entry .now) (rw (c .enum-told2 .given .1) at (at-recover-cut .recover-cut .ensures)), tt)
 
 same-length-19 : tie.Need-same-length-19
 same-length-19 c = search needs
@@ -167,13 +146,8 @@ same-length-21 c = search needs
 returns-6 : tie.Need-returns-6
 returns-6 c =
     let at-recover-cut = c .before .before .before .before .before .before .before .before in
-    let start = at-recover-cut .before .before .before .before .before .before .before .before .before .before .before .before in
-    let a = start .args in
-    let call = at-recover-cut .recover-cut in
-    (two (a .chain .now) (a .x) (a .k) (a .storage .now) (a .program .now) (a .restart-arguments .now) (a .arguments .now) (a .image .now) (a .faults .now) (a .list .now) (a .made) _ _ _ (a .list .now) (rw (c .enum-told3 .given .1) at (call .ensures)), tt)
-
-enum-told-4 : tie.Need-enum-told-4
-enum-told-4 c = search needs
+    let a = at-recover-cut .before .before .before .before .before .before .before .before .before .args in
+    (two (a .chain .now) (a .x) (a .k) (a .storage .now) (a .program .now) (a .restart-arguments .now) (a .entry .now) _ _ _ (a .entry .now) (rw (c .enum-told3 .given .1) at (at-recover-cut .recover-cut .ensures)), tt)
 
 same-length-22 : tie.Need-same-length-22
 same-length-22 c = search needs
@@ -187,10 +161,8 @@ same-length-24 c = search needs
 returns-7 : tie.Need-returns-7
 returns-7 c =
     let at-recover-cut = c .before .before .before .before .before .before .before .before in
-    let start = at-recover-cut .before .before .before .before .before .before .before .before .before .before .before .before in
-    let a = start .args in
-    let call = at-recover-cut .recover-cut in
-    (repeated (a .chain .now) (a .x) (a .k) (a .storage .now) (a .program .now) (a .restart-arguments .now) (a .arguments .now) (a .image .now) (a .faults .now) (a .list .now) (a .made) _ _ _ (a .list .now) (rw (c .enum-told4 .given .1) at (call .ensures)), tt)
+    let a = at-recover-cut .before .before .before .before .before .before .before .before .before .args in
+    (repeated (a .chain .now) (a .x) (a .k) (a .storage .now) (a .program .now) (a .restart-arguments .now) (a .entry .now) _ _ _ (a .entry .now) (rw (c .enum-told4 .given .1) at (at-recover-cut .recover-cut .ensures)), tt)
 
 pub after-cut-spec : {M : Type 1} → statement M
 after-cut-spec =
@@ -200,43 +172,42 @@ after-cut-spec =
     enum-known-kind
     action-number-requires
     note-requires
-    run-from-requires
+    enum-known-w
+    note-requires-2
+    enum-told
+    note-requires-3
+    enum-known-q
+    number-requires
+    enum-told-2
+    enum-told-3
+    enum-told-4
     same-length
     same-length-2
     same-length-3
     same-length-4
     returns
-    enum-known-w
-    note-requires-2
     same-length-5
     same-length-6
     same-length-7
     same-length-8
     returns-2
-    enum-told
-    note-requires-3
     same-length-9
     same-length-10
     same-length-11
     same-length-12
     returns-3
-    enum-known-q
-    number-requires
     same-length-13
     same-length-14
     same-length-15
     returns-4
-    enum-told-2
     same-length-16
     same-length-17
     same-length-18
     returns-5
-    enum-told-3
     same-length-19
     same-length-20
     same-length-21
     returns-6
-    enum-told-4
     same-length-22
     same-length-23
     same-length-24

@@ -3,8 +3,10 @@
 use mathlib.Core.Path.{_≡_, refl, _∙_}
 use Prim.Native.Nat.{_-_, _≤_}
 use lib.ListN.{length}
+use Rattle.channel.specs.Ccw.{addressOf}
 use Rattle.trial.specs.Run.{RanLow}
 use Rattle.reading_cut.specs.Cut.{lentAreas}
+use Rattle.reading_runs.proofs.Listed.{part-long}
 use Rattle.reading_runs.proofs.Ons.{Onward, at-first, on-ended, on-limited, on-exhausted, on-closed, on-halted, on-again}
 use borrow.Author.Needs.{needs}
 use native.Mathlib.Omega.{arith}
@@ -101,6 +103,30 @@ returns-3 c =
     let low = rw (at-ran3 .ran3 .given .1) at (at .inv .5) in
     (on-exhausted (a .chain .now) (a .arguments .now) (a .image .now) (a .faults .now) (a .x) (a .limit) (a .first) (lentAreas (a .storage .now) (a .program .now) (a .restart-arguments .now) (a .list .now)) _ _ (at-ran3 .ran3 .given .0 .0) (rw (at-ran3 .ran3 .given .1) at (at .inv .6)) (c .if1 .taken), (at .inv .0, record { csw-low = low .csw-low; made-low = omega (arith, at .inv .0, start .pre .1 .1 .1 .0) }))
 
+mul-after-cut : tie.Need-mul-after-cut Inv-loop μ-loop
+mul-after-cut c =
+    let at-if1 = c .before .before .before in
+    let at-loop = at-if1 .before .before .before .before .before in
+    let start = at-loop .before .before .before .before .before .before .before .before .before in
+    omega (arith, at-loop .loop .inv .0, at-loop .loop .inv .4, start .pre .1 .1 .1 .0, start .pre .1 .1 .1 .1, at-if1 .if1 .left)
+
+sub-after-cut : tie.Need-sub-after-cut Inv-loop μ-loop
+sub-after-cut c =
+    let at-if1 = c .before .before .before in
+    let at-loop = at-if1 .before .before .before .before .before in
+    let start = at-loop .before .before .before .before .before .before .before .before .before in
+    omega (arith, at-loop .loop .inv .0, at-loop .loop .inv .4, start .pre .1 .1 .1 .0, start .pre .1 .1 .1 .1, at-if1 .if1 .left)
+
+part-after-cut-start : tie.Need-part-after-cut-start Inv-loop μ-loop
+part-after-cut-start c =
+    let at-if1 = c .before .before .before in
+    let at-loop = at-if1 .before .before .before .before .before in
+    let start = at-loop .before .before .before .before .before .before .before .before .before in
+    omega (arith, at-loop .loop .inv .0, at-loop .loop .inv .4, start .pre .1 .1 .1 .0, start .pre .1 .1 .1 .1, at-if1 .if1 .left)
+
+part-after-cut-end : tie.Need-part-after-cut-end Inv-loop μ-loop
+part-after-cut-end c = search needs
+
 after-cut-requires : tie.Need-after-cut-requires Inv-loop μ-loop
 after-cut-requires c κs =
     let at-if1 = c .before .before .before .before in
@@ -108,21 +134,26 @@ after-cut-requires c κs =
     let at-loop = at-ran3 .before .before in
     let start = at-loop .before .before .before .before .before .before .before .before .before in
     let at = at-loop .loop in
-    let begun = start .pre .0 in
     let lent = start .pre .1 .0 in (
-      record { short = (begun .short .0, omega (arith, at .inv .2, begun .short .1)); whole = begun .whole; listed = begun .listed },
-      (
-        record { chain-short = lent .chain-short; program-full = at .inv .2 ∙ lent .program-full; restart-arguments-full = at .inv .3 ∙ lent .restart-arguments-full },
-        (rw (at-ran3 .ran3 .given .1) at (at .inv .5), omega (arith, at .inv .0, at .inv .4, start .pre .1 .1 .1 .1, at-if1 .if1 .left)),
-      ),
+      record { chain-short = lent .chain-short; program-full = at .inv .2 ∙ lent .program-full; restart-arguments-full = at .inv .3 ∙ lent .restart-arguments-full },
+      (rw (at-ran3 .ran3 .given .1) at (at .inv .5), part-long (at .made) (start .args .limit) (at .list) (at .inv .0) (at-if1 .if1 .left) (at .inv .4) (start .pre .1 .1 .1 .1)),
     )
 
-enum-known-r : tie.Need-enum-known-r Inv-loop μ-loop
-enum-known-r c = search needs
+enum-told : tie.Need-enum-told Inv-loop μ-loop
+enum-told c = search needs
+
+run-from-requires : tie.Need-run-from-requires Inv-loop μ-loop
+unfolding addressOf
+run-from-requires c κs =
+    let at-program = c .before .before .before .before .before .before .before .before .before .before in
+    let at-loop = at-program .before .before .before .before .before .before .before .before .before .before .before .before .before in
+    let start = at-loop .before .before .before .before .before .before .before .before .before in
+    let begun = start .pre .0 in
+    (record { short = (begun .short .0, omega (arith, at-program .program .given, at-loop .loop .inv .2, begun .short .1)); whole = begun .whole; listed = begun .listed }, omega arith)
 
 add-made : tie.Need-add-made Inv-loop μ-loop
 add-made c =
-    let at-loop = c .before .before .before .before .before .before .before .before .before .before .before .before .before .before .before .before .before .before .before .before .before in
+    let at-loop = c .before .before .before .before .before .before .before .before .before .before .before .before .before .before .before .before .before .before .before .before .before .before .before .before .before .before in
     let start = at-loop .before .before .before .before .before .before .before .before .before in
     omega (arith, at-loop .loop .inv .0, start .pre .1 .1 .1 .0)
 
@@ -131,7 +162,8 @@ loop-less c = search needs
 
 loop-again : tie.Need-loop-again Inv-loop μ-loop
 loop-again c =
-    let at-list = c .before .before .before .before in
+    let at-enum-told = c .before .before .before .before .before .before in
+    let at-list = at-enum-told .before .before .before in
     let at-restart-arguments = at-list .before .before in
     let at-program = at-restart-arguments .before .before in
     let at-storage = at-program .before .before in
@@ -142,21 +174,23 @@ loop-again c =
     let start = at-loop .before .before .before .before .before .before .before .before .before in
     let a = start .args in
     let at = at-loop .loop in
+    let ran = c .before .before .run-from .ensures in
     let cut = rw (at-ran3 .ran3 .given .1) at (at .inv .6) in (
       omega (arith, at .inv .0, at-if1 .if1 .left),
-      at-storage .storage .given ∙ at .inv .1,
+      c .before .storage2 .given ∙ at-storage .storage .given ∙ at .inv .1,
       at-program .program .given ∙ at .inv .2,
       at-restart-arguments .restart-arguments .given ∙ at .inv .3,
-      at-list .list .given ∙ at .inv .4,
-      rw (c .before .r .given .1) at (at-after-cut .after-cut .ensures .1),
-      on-again (a .chain .now) (a .arguments .now) (a .image .now) (a .faults .now) (a .x) (a .limit) (a .first) (lentAreas (a .storage .now) (a .program .now) (a .restart-arguments .now) (a .list .now)) _ _ (at-ran3 .ran3 .given .0 .0) cut (at .inv .0) (at-if1 .if1 .left) (c .before .r .given .0 .0) _ (rw (c .before .r .given .1) at (at-after-cut .after-cut .ensures .0)),
+      search needs,
+      ran .1,
+      on-again (a .chain .now) (a .arguments .now) (a .image .now) (a .faults .now) (a .x) (a .limit) (a .first) (lentAreas (a .storage .now) (a .program .now) (a .restart-arguments .now) (a .list .now)) _ _ (at-ran3 .ran3 .given .0 .0) cut (at .inv .0) (at-if1 .if1 .left) (lentAreas _ _ _ _)
+          (rw (at-enum-told .enum-told .given .1) at (at-after-cut .after-cut .ensures .0)) (c .before .before .run-from .result) _ (ran .0),
     )
 
 enum-known-w : tie.Need-enum-known-w Inv-loop μ-loop
 enum-known-w c = search needs
 
-add-t36 : tie.Need-add-t36 Inv-loop μ-loop
-add-t36 c =
+add-t45 : tie.Need-add-t45 Inv-loop μ-loop
+add-t45 c =
     let at-loop = c .before .before .before .before .before .before .before .before .before .before .before .before .before .before .before .before .before .before .before .before .before in
     let start = at-loop .before .before .before .before .before .before .before .before .before in
     omega (arith, at-loop .loop .inv .0, start .pre .1 .1 .1 .0)
@@ -182,8 +216,11 @@ returns-4 c =
     let start = at-loop .before .before .before .before .before .before .before .before .before in
     let a = start .args in
     let at = at-loop .loop in
-    let cut = rw (at-ran3 .ran3 .given .1) at (at .inv .6) in
-    (on-closed (a .chain .now) (a .arguments .now) (a .image .now) (a .faults .now) (a .x) (a .limit) (a .first) (lentAreas (a .storage .now) (a .program .now) (a .restart-arguments .now) (a .list .now)) _ _ (at-ran3 .ran3 .given .0 .0) cut (at .inv .0) (at-if1 .if1 .left) _ _ (rw (c .before .w3 .given .1) at (at-after-cut .after-cut .ensures .0)), (omega (arith, at .inv .0, at-if1 .if1 .left), record { csw-low = rw (c .before .w3 .given .1) at (at-after-cut .after-cut .ensures .1); made-low = omega (arith, at .inv .0, start .pre .1 .1 .1 .0) }))
+    let cut = rw (at-ran3 .ran3 .given .1) at (at .inv .6) in (
+      on-closed (a .chain .now) (a .arguments .now) (a .image .now) (a .faults .now) (a .x) (a .limit) (a .first) (lentAreas (a .storage .now) (a .program .now) (a .restart-arguments .now) (a .list .now)) _ _ (at-ran3 .ran3 .given .0 .0) cut (at .inv .0) (at-if1 .if1 .left) _ (lentAreas _ _ _ _)
+          (rw (c .before .w3 .given .1) at (at-after-cut .after-cut .ensures .0)),
+      (omega (arith, at .inv .0, at-if1 .if1 .left), record { csw-low = rw (c .before .w3 .given .1) at (at-after-cut .after-cut .ensures .1); made-low = omega (arith, at .inv .0, start .pre .1 .1 .1 .0) }),
+    )
 
 enum-known-n : tie.Need-enum-known-n Inv-loop μ-loop
 enum-known-n c = search needs
@@ -210,8 +247,11 @@ returns-5 c =
     let a = start .args in
     let at = at-loop .loop in
     let cut = rw (at-ran3 .ran3 .given .1) at (at .inv .6) in
-    let low = rw (at-ran3 .ran3 .given .1) at (at .inv .5) in
-    (on-halted (a .chain .now) (a .arguments .now) (a .image .now) (a .faults .now) (a .x) (a .limit) (a .first) (lentAreas (a .storage .now) (a .program .now) (a .restart-arguments .now) (a .list .now)) _ _ (at-ran3 .ran3 .given .0 .0) cut (at .inv .0) (at-if1 .if1 .left) _ _ (rw (c .before .n .given .1) at (at-after-cut .after-cut .ensures .0)), (at .inv .0, record { csw-low = low .csw-low; made-low = omega (arith, at .inv .0, start .pre .1 .1 .1 .0) }))
+    let low = rw (at-ran3 .ran3 .given .1) at (at .inv .5) in (
+      on-halted (a .chain .now) (a .arguments .now) (a .image .now) (a .faults .now) (a .x) (a .limit) (a .first) (lentAreas (a .storage .now) (a .program .now) (a .restart-arguments .now) (a .list .now)) _ _ (at-ran3 .ran3 .given .0 .0) cut (at .inv .0) (at-if1 .if1 .left) _ (lentAreas _ _ _ _)
+          (rw (c .before .n .given .1) at (at-after-cut .after-cut .ensures .0)),
+      (at .inv .0, record { csw-low = low .csw-low; made-low = omega (arith, at .inv .0, start .pre .1 .1 .1 .0) }),
+    )
 
 pub read-on-spec : {M : Type 1} → statement M
 read-on-spec =
@@ -238,13 +278,18 @@ read-on-spec =
     same-length-11
     same-length-12
     returns-3
+    mul-after-cut
+    sub-after-cut
+    part-after-cut-start
+    part-after-cut-end
     after-cut-requires
-    enum-known-r
+    enum-told
+    run-from-requires
     add-made
     loop-less
     loop-again
     enum-known-w
-    add-t36
+    add-t45
     same-length-13
     same-length-14
     same-length-15

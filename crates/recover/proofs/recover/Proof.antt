@@ -1,9 +1,6 @@
 -- `recover::recover` meets its contract: the questions in order. Assumes nothing.
 use mathlib.Core.Path.{sym, _∙_}
 use borrow.Author.Tests.{not-true, not-false}
-use native.Mathlib.Omega.{arith}
-use Rattle.base.specs.Bytes.{part}
-use Rattle.base.proofs.Bytes.{length-part}
 use Rattle.recover.proofs.Calls.{areas-say, wrong-areas, ill-formed, off-pack, answers}
 use Rattle.recover.proofs.Finished.{recovered-low}
 use borrow.Author.Needs.{needs}
@@ -32,7 +29,8 @@ returns-2 c =
     let at-if1 = at-read .before in
     let at-areas-fit = at-if1 .before in
     let start = at-areas-fit .before .before .before .before .before .before .before in
-    let a = start .args in (ill-formed (a .chain .now) (a .report .now) (a .extent .now) (a .storage .now) (a .program .now) (a .restart-arguments .now) (sym (at-areas-fit .areas-fit .ensures) ∙ not-false _ (at-if1 .if1 .left)) _ (at-q .q .given .0 .0) (at-read .read .ensures .0) (at-read .read .ensures .1) (at-q .q .given .1), tt)
+    let a = start .args in
+    (ill-formed (a .chain .now) (a .report .now) (a .extent .now) (a .storage .now) (a .program .now) (a .restart-arguments .now) (sym (at-areas-fit .areas-fit .ensures) ∙ not-false _ (at-if1 .if1 .left)) _ (at-q .q .given .0 .0) (at-read .read .ensures .0) (at-read .read .ensures .1) (at-q .q .given .1), tt)
 
 extent-of-requires : tie.Need-extent-of-requires
 extent-of-requires c κs =
@@ -53,41 +51,14 @@ returns-3 c =
     let a = start .args in
     (off-pack (a .chain .now) (a .report .now) (a .extent .now) (a .storage .now) (a .program .now) (a .restart-arguments .now) (sym (at-areas-fit .areas-fit .ensures) ∙ not-false _ (at-if1 .if1 .left)) _ _ (at-read .read .ensures .0) (at-w .w .given .1) _ (c .before .before .extent-of .ensures) (sym (c .before .on-pack .ensures) ∙ not-true _ (c .if2 .taken)), tt)
 
-user-of-requires : tie.Need-user-of-requires
-user-of-requires c κs =
-    let at-w = c .before .before .before .before .before in
-    let at-read = at-w .before .before in
-    (rw (at-w .w .given .1) at (at-read .read .ensures .1)) .seek
+tell-requires : tie.Need-tell-requires
+tell-requires c κs = let at-w = c .before .before .before .before in rw (at-w .w .given .1) at (at-w .before .before .read .ensures .1)
 
-sub-recover-from : tie.Need-sub-recover-from
-sub-recover-from c = search needs
-
-part-recover-from-start : tie.Need-part-recover-from-start
-part-recover-from-start c = search needs
-
-part-recover-from-end : tie.Need-part-recover-from-end
-part-recover-from-end c =
-    let at-w = c .before .before .before .before .before .before .before .before .before in
-    let at-read = at-w .before .before in
-    let n = (rw (at-w .w .given .1) at (at-read .read .ensures .1)) .long in omega arith
-
-recover-from-requires : tie.Need-recover-from-requires
-unfolding part
-recover-from-requires c κs =
-    let at-user-of = c .before .before .before .before in
-    let at-w = at-user-of .before .before .before .before .before .before in
-    let at-read = at-w .before .before in
-    let at-if1 = at-read .before in
-    let at-areas-fit = at-if1 .before in
-    let start = at-areas-fit .before .before .before .before .before .before .before in
-    let a = start .args in
-    let fit = areas-say _ _ _ _ _ (sym (at-areas-fit .areas-fit .ensures) ∙ not-false _ (at-if1 .if1 .left)) in
-    let bounds = rw (at-w .w .given .1) at (at-read .read .ensures .1) in
-    record {
-      lent = record { chain-short = fit .chain-short; sense-full = length-part (a .report .now) 3 27 (omega (arith, bounds .long)); program-full = fit .program-full; restart-arguments-full = fit .restart-arguments-full };
-      csw-low = bounds .address;
-      user-on = at-user-of .user-of .ensures .1;
-    }
+recover-told-requires : tie.Need-recover-told-requires
+recover-told-requires c κs =
+    let at-if1 = c .before .before .before .before .before .before .before .before .before .before .before in
+    let fit = areas-say _ _ _ _ _ (sym (at-if1 .before .areas-fit .ensures) ∙ not-false _ (at-if1 .if1 .left)) in
+    (fit .chain-short, (c .before .before .before .tell .ensures .1, (fit .program-full, fit .restart-arguments-full)))
 
 same-length : tie.Need-same-length
 same-length c = search needs
@@ -99,11 +70,10 @@ same-length-3 : tie.Need-same-length-3
 same-length-3 c = search needs
 
 returns-4 : tie.Need-returns-4
-unfolding part
 returns-4 c =
-    let at-recover-from = c .before .before .before .before .before .before in
-    let at-user-of = at-recover-from .before .before .before .before .before in
-    let at-if2 = at-user-of .before .before in
+    let at-recover-told = c .before .before .before .before .before .before in
+    let at-tell = at-recover-told .before .before .before .before in
+    let at-if2 = at-tell .before in
     let at-on-pack = at-if2 .before in
     let at-extent-of = at-on-pack .before in
     let at-w = at-extent-of .before .before in
@@ -112,12 +82,11 @@ returns-4 c =
     let at-areas-fit = at-if1 .before in
     let start = at-areas-fit .before .before .before .before .before .before .before in
     let a = start .args in
-    let bounds = rw (at-w .w .given .1) at (at-read .read .ensures .1) in
-    let user = at-user-of .user-of in
-    let done = at-recover-from .recover-from in (
-      answers (a .chain .now) (a .report .now) (a .extent .now) (a .storage .now) (a .program .now) (a .restart-arguments .now) (sym (at-areas-fit .areas-fit .ensures) ∙ not-false _ (at-if1 .if1 .left)) _ _ (at-read .read .ensures .0) (at-w .w .given .1) _ (at-extent-of .extent-of .ensures) (user .result) _
-          (sym (at-on-pack .on-pack .ensures) ∙ not-false _ (at-if2 .if2 .left)) (user .ensures .0) (done .ensures),
-      recovered-low _ _ _ _ _ _ (record { address = bounds .address; count = bounds .count }) (done .ensures _ (sym (user .ensures .0))),
+    let tells = at-tell .tell .ensures in
+    let done = at-recover-told .recover-told .ensures in (
+      answers (a .chain .now) (a .report .now) (a .extent .now) (a .storage .now) (a .program .now) (a .restart-arguments .now) (sym (at-areas-fit .areas-fit .ensures) ∙ not-false _ (at-if1 .if1 .left)) _ _ (at-read .read .ensures .0) (at-w .w .given .1) _ (at-extent-of .extent-of .ensures) _ _
+          (sym (at-on-pack .on-pack .ensures) ∙ not-false _ (at-if2 .if2 .left)) (tells .0) done,
+      recovered-low _ _ _ _ _ _ (rw (tells .0 .csw) (tells .1 .csw-low)) (done _ (tells .0)),
     )
 
 pub recover-spec : {M : Type 1} → statement M
@@ -133,11 +102,8 @@ recover-spec =
     extent-of-requires
     on-pack-requires
     returns-3
-    user-of-requires
-    sub-recover-from
-    part-recover-from-start
-    part-recover-from-end
-    recover-from-requires
+    tell-requires
+    recover-told-requires
     same-length
     same-length-2
     same-length-3

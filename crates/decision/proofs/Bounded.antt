@@ -1,0 +1,85 @@
+-- A decision in an extent.
+--   pack-low                     the numbers of a track of the pack
+--   plan-low                     the numbers of a restart whose seek is allowed
+--   restart-in .. no-restart     what the code returns
+--   by-seek                      a restart, carried out
+--   refusal-is                   a refusal, carried out
+--   applied-pick                 one of two answers
+use Prim.Native.Nat.{ℕ, _<_, _≤_}
+use native.Mathlib.Omega.{arith}
+use mathlib.Core.Path.{_≡_, refl}
+use mathlib.Core.Bool.{Bool, true, false}
+use mathlib.Core.List.{List, [], _∷_}
+use mathlib.Core.Logic.{inl, inr}
+use lib.Dec.{leb}
+use types.Run.{OneOf}
+use denote.Enum.Declared
+use borrow.Author.Tests.{leb-true}
+use Rattle.base.specs.Choice.{pick}
+use Rattle.base.proofs.Choice.{and-left, and-right}
+use Rattle.questions.specs.declared.Question.{Question}
+use Rattle.address.specs.declared.Address.{Address}
+use Rattle.address.specs.declared.Extent.{Extent}
+use Rattle.address.specs.Order.{lastCylinder, onPack}
+use Rattle.address.specs.Within.{within}
+use Rattle.correction.specs.declared.Correction.{Correction}
+use Rattle.correction.specs.Retraced.{mended}
+use Rattle.recovery.specs.Recovery as Recovery
+use Rattle.recovered.specs.declared.Recovered.the-variants.{Refused, ActionTwo, Restart}
+use Rattle.recovered.specs.Applied.{with, applied}
+use Rattle.recovered.specs.Allowed.{allowed}
+use Rattle.decision.specs.declared.RestartPlan.{RestartPlan}
+use Rattle.decision.specs.declared.Decision.{Decision}
+use Rattle.decision.specs.declared.Decision.the-variants.{Answers, Corrects, Restarts}
+use Rattle.decision.specs.Decision.{programFor, argumentsFor, done, bounded, PlanLow, DecisionLow}
+use Rattle.decision.proofs.Decision as DecisionType
+
+pub pack-low : (a : Address) → onPack lastCylinder a ≡ true → (a .cylinder ≤ 410) × (a .head ≤ 18)
+unfolding onPack
+pack-low a h = (leb-true _ _ (and-left (leb (a .cylinder) 410) (leb (a .head) 18) h), leb-true _ _ (and-right (leb (a .cylinder) 410) (leb (a .head) 18) h))
+
+pub plan-low : (x : Extent) (q : RestartPlan) → allowed x (q .track) ≡ true → q .to < 0x10000 → PlanLow q
+plan-low x q h n =
+    let low = pack-low (q .track) (and-left (onPack lastCylinder (q .track)) (within x (q .track)) h) in
+    record { to-low = n; cylinder-low = omega (arith, low .0); head-low = omega (arith, low .1) }
+
+module _ (x : Extent) (d : Decision) (q : RestartPlan) (c : Correction) (e : d ≡ Restarts q c) where
+  pub restart-in : allowed x (q .track) ≡ true → Restarts q c ≡ bounded x d
+  unfolding bounded pick
+  restart-in h = rw (e, h)
+
+  pub restart-out : allowed x (q .track) ≡ false → Answers ActionTwo ≡ bounded x d
+  unfolding bounded pick
+  restart-out h = rw (e, h)
+
+no-two : (x : ℕ) → OneOf (0 ∷ 1 ∷ []) x → x ≡ 2 → ⊥
+no-two x (inl e) f = omega arith
+no-two x (inr e) f = omega arith
+
+pub no-restart : (x : Extent) (d : Decision) → OneOf (0 ∷ 1 ∷ []) (Declared.tagOf DecisionType.the-type d) → (d ≡ bounded x d) × DecisionLow d
+unfolding bounded
+no-restart x (Answers r) h = (refl, tt)
+no-restart x (Corrects r c) h = (refl, tt)
+no-restart x (Restarts q c) h = absurd (no-two 2 h refl)
+
+by-test : (b : Bool) (q : RestartPlan) (c : Correction) (st p a : List ℕ)
+    → done (pick b (Restarts q c) (Answers ActionTwo)) st p a
+    ≡ pick b (with (Restart (q .kind)) (mended c st) (programFor q) (argumentsFor q)) (with ActionTwo st p a)
+unfolding pick done
+by-test true q c st p a = refl
+by-test false q c st p a = refl
+
+pub by-seek : (x : Extent) (q : RestartPlan) (c : Correction) (st p a : List ℕ)
+    → done (bounded x (Restarts q c)) st p a
+    ≡ pick (allowed x (q .track)) (with (Restart (q .kind)) (mended c st) (programFor q) (argumentsFor q)) (with ActionTwo st p a)
+unfolding bounded
+by-seek x q c st p a = by-test (allowed x (q .track)) q c st p a
+
+pub refusal-is : (q : Question) (x : Extent) (st p a : List ℕ) → done (bounded x (Answers (Refused q))) st p a ≡ applied (Recovery.refused q) st p a
+unfolding done bounded applied
+refusal-is q x st p a = refl
+
+pub applied-pick : (b : Bool) (u v : Recovery.Recovery) (st p a : List ℕ) → pick b (applied u st p a) (applied v st p a) ≡ applied (pick b u v) st p a
+unfolding pick
+applied-pick true u v st p a = refl
+applied-pick false u v st p a = refl

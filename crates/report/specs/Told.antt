@@ -1,0 +1,71 @@
+-- What a report tells recovery, as the code has it: by value.
+use Prim.Native.Nat.{ℕ, _+_}
+use mathlib.Core.Path.{_≡_}
+use mathlib.Core.Bool.{true}
+use mathlib.Core.Option.{Option, none, some}
+use mathlib.Core.List.{List}
+use lib.ListN.{length, getD}
+use Rattle.base.specs.Bytes.{part}
+use Rattle.address.specs.declared.Address.{Address}
+use Rattle.address.specs.Order.{lastCylinder, onPack}
+use Rattle.location.specs.Low.{CswLow}
+use Rattle.recovery.specs.Report.{Report}
+use Rattle.recovery.specs.Recovery.{userTrack, cutTrack, restartDisplacement, errorDisplacement}
+use Rattle.report.specs.declared.Seek.{Seek}
+use Rattle.report.specs.declared.User.{User}
+use Rattle.report.specs.declared.User.the-variants.{Track, Missing}
+use Rattle.report.specs.declared.Sense.{Sense}
+use Rattle.report.specs.declared.Told.{Told}
+use Rattle.report.specs.Reported.{seekOf}
+
+-- ---- the user's track
+
+-- as the definitions have it
+abbrev pub userOf : User → Option Address
+userOf Missing = none
+userOf (Track a) = some a
+
+-- it lies on the pack
+abbrev pub UserOnPack : User → Type 0
+UserOnPack Missing = Unit {0}
+UserOnPack (Track a) = onPack lastCylinder a ≡ true
+
+-- of the six bytes of a report from a place on
+abbrev pub UserAt : List ℕ → ℕ → User → Type 0
+UserAt report at user = userOf user ≡ userTrack lastCylinder (some (part report at (at + 6)))
+
+-- of a report's seek argument, if it has one
+abbrev pub UserOf : List ℕ → Seek → User → Type 0
+UserOf report seek user = userOf user ≡ userTrack lastCylinder (seekOf report seek)
+
+-- ---- the whole
+
+-- the 24 sense bytes tell this
+pub record SenseTells (s : List ℕ) (t : Sense) : Type 0 where
+  pub full : length s ≡ 24
+  pub byte0 : getD s 0 0 ≡ t .byte0
+  pub byte1 : getD s 1 0 ≡ t .byte1
+  pub byte2 : getD s 2 0 ≡ t .byte2
+  pub format : getD s 7 0 ≡ t .format
+  pub track : cutTrack s ≡ t .track
+  pub number : getD s 12 0 ≡ t .number
+  pub sector : getD s 13 0 ≡ t .sector
+  pub restart : restartDisplacement s ≡ t .restart .0
+  pub error : errorDisplacement s ≡ t .error .0
+  pub pattern0 : getD s 20 0 ≡ t .pattern0
+  pub pattern1 : getD s 21 0 ≡ t .pattern1
+  pub pattern2 : getD s 22 0 ≡ t .pattern2
+
+-- a report tells this
+pub record Tells (r : Report) (t : Told) : Type 0 where
+  pub sense : SenseTells (r .sense) (t .sense)
+  pub csw : r .csw ≡ t .csw
+  pub first : r .first ≡ t .first
+  pub mask : r .mask ≡ t .mask
+  pub user : userTrack lastCylinder (r .seek) ≡ userOf (t .user)
+  pub tries : r .tries ≡ t .tries
+
+-- its CSW fits its bytes, and the user's track, if there is one, lies on the pack
+pub record ToldLow (t : Told) : Type 0 where
+  pub csw-low : CswLow (t .csw)
+  pub user-on : UserOnPack (t .user)
