@@ -40,9 +40,9 @@ extern "C" {
  * gone, or an answer is another one; a program must be looked at. Minor: names or calls were added; a program need only be compiled. Patch:
  * neither.
  */
-#define GIRUVE_VERSION "1.0.0"
+#define GIRUVE_VERSION "2.0.0"
 enum {
-    GIRUVE_VERSION_MAJOR = 1,
+    GIRUVE_VERSION_MAJOR = 2,
     GIRUVE_VERSION_MINOR = 0,
     GIRUVE_VERSION_PATCH = 0,
 };
@@ -202,7 +202,7 @@ enum {
 enum {
     GIRUVE_ACTION_NONE = 0,    /* with GIRUVE_ANSWER_ACTION_1, GIRUVE_ANSWER_ACTION_2 and GIRUVE_ANSWER_REPEAT */
     GIRUVE_ACTION_5 = 0x05,    /* a data check mended; a restart goes on behind the record, found by its ID */
-    GIRUVE_ACTION_5A = 0x15,   /* the same, with a read count before the restart's last TIC */
+    GIRUVE_ACTION_5A = 0x15,   /* the same, with a read count (12, or 92 before an 86 or 8E) before the restart's last TIC */
     GIRUVE_ACTION_8 = 0x08,    /* a restart at the first track of the next cylinder, with the CCW that was interrupted */
     GIRUVE_ACTION_10 = 0x0A,   /* a restart that makes the user's seek, and goes on behind it */
     GIRUVE_ACTION_10A = 0x1A,  /* a restart at the next track, with the CCW that was interrupted */
@@ -256,7 +256,9 @@ uint8_t giruve_recover(const uint8_t *chain, size_t chain_length, const uint8_t 
  * exclusive-ored into them, and the run ends with GIRUVE_UNIT_CHECK and the sense bytes of a correctable data check.
  *
  * The drive takes these commands, hexadecimal, and rejects all others: 03 no-op, 07 seek, 1F set file mask, 23 set sector, 31 search ID
- * equal, 06 read data, 0E read key and data, 12 read count, 1E read count, key and data, 1A read home address.
+ * equal, 06 read data, 0E read key and data, 12 read count, 1E read count, key and data, 1A read home address; and B1, 86, 8E, 92 and 9E, the
+ * multitrack forms of 31, 06, 0E, 12 and 1E, which step to the next head of the cylinder where these would come round to the front of the
+ * track. A step past head 18 ends the run with GIRUVE_UNIT_CHECK, and end of cylinder in the sense: 20 in byte 1.
  */
 uint8_t giruve_run(const uint8_t *chain, size_t chain_length, const uint8_t *arguments, size_t arguments_length,
                    uint8_t *storage, size_t storage_length, const uint8_t *image, size_t image_length,
@@ -277,6 +279,9 @@ uint8_t giruve_run_restart(const uint8_t *chain, size_t chain_length, const uint
  *
  * Writes the answer (GIRUVE_AT_READING_..); storage as reads and recoveries do; the list, with an entry (GIRUVE_AT_ENTRY_..) for each
  * recovery in order, and nothing behind the last; and for each restart its program and arguments, of which the last remain.
+ *
+ * The address in the CSW may lie in the restart program, from GIRUVE_PROGRAM_ADDRESS on. Only a read count, 92, ends a reading there, where the step
+ * to the next head fails that the 86 or 8E behind it was to make (docs/OPERATORS.md of the repository).
  */
 uint8_t giruve_reading(const uint8_t *chain, size_t chain_length, const uint8_t *arguments, size_t arguments_length,
                        uint8_t *storage, size_t storage_length, const uint8_t *image, size_t image_length,

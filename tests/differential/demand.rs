@@ -1,12 +1,15 @@
-//! Demand 3, asked of a reading: where its provisos are met, it ends like the faultless run.
+//! Demand 3, asked of a reading: where its provisos are met, it ends like the faultless run, but for
+//! one end that is at the restart's 92.
 
 use crate::lendings::GeneratedReading;
+use crate::simulator::channel::Ccw;
+use crate::simulator::drive::{Done, UnitCheck, READ_DATA_MULTITRACK, READ_KEY_DATA_MULTITRACK};
 use crate::simulator::extent::Extent;
 use crate::simulator::faults::FaultList;
 use crate::simulator::held::RECOVERY_ENTRY;
 use crate::simulator::pack::TrackAddress;
 use crate::simulator::report::MASK_PCI_FETCH;
-use crate::simulator::run::{End, Outcome};
+use crate::simulator::run::{End, Outcome, Watch};
 use crate::simulator::{check_faults, LAST_CYLINDER};
 
 rules! {
@@ -20,14 +23,74 @@ rules! {
     }
 }
 
+/// The record of a data area.
+type Area = (TrackAddress, u8);
+
+/// The last commands of a faultless run.
+#[derive(Default)]
+pub struct LastTwo {
+    /// Code of the last.
+    command: u8,
+    /// What the last but one took, then what the last took.
+    taken: [Option<Area>; 2],
+}
+
+impl Watch for LastTwo {
+    fn command(&mut self, ccw: &Ccw, _argument: &[u8], done: &Result<Done, UnitCheck>) {
+        let area = match done {
+            Ok(Done::Read(arriving)) => arriving.data_area,
+            _ => None,
+        };
+        self.command = ccw.command;
+        self.taken = [self.taken[1], area.map(|area| (area.track, area.number))];
+    }
+}
+
+/// "only where the uncut one's last command is an 86 or 8E that ends with End of Cylinder, File
+/// Protected, or a step to a track that isn't in the image may address and count left be those of the
+/// restart's 92": they are, exactly where the command before it reads a faulted data area.
+#[derive(Clone, Copy, Debug)]
+pub struct AtReadCount {
+    pub ended_by: UnitCheck,
+    pub is_masked: bool,
+}
+
+impl AtReadCount {
+    pub fn of(run: &Outcome, last: &LastTwo, faults: &FaultList) -> Option<AtReadCount> {
+        let End::UnitCheck(ended_by) = run.end else {
+            return None;
+        };
+        let takes_data = [READ_DATA_MULTITRACK, READ_KEY_DATA_MULTITRACK].contains(&last.command);
+        let (track, number) = last.taken[0]?;
+        faults.of(track, number)?;
+        (takes_data && ended_by.is_of_a_step()).then_some(AtReadCount {
+            ended_by,
+            is_masked: run.mask.is_some(),
+        })
+    }
+
+    /// The CSW of the whole reading: the 92 stands at 1020, behind a mask at 1028, and its count is 8.
+    fn csw(self, [.., unit, channel, _, _]: [u8; 8]) -> [u8; 8] {
+        let behind = if self.is_masked { 0x30 } else { 0x28 };
+        [0, 0, 0x10, behind, unit, channel, 0, 8]
+    }
+}
+
+/// The CSW of a reading whose faultless run has this one.
+pub fn csw_of_reading(csw: [u8; 8], at_read_count: Option<AtReadCount>) -> [u8; 8] {
+    at_read_count.map_or(csw, |at_read_count| at_read_count.csw(csw))
+}
+
 /// A faultless run that meets the provisos.
 #[derive(Debug)]
 pub struct Faultless {
     extent: Extent,
+    /// Of the reading.
     csw: [u8; 8],
+    pub at_read_count: Option<AtReadCount>,
     storage: Vec<u8>,
     /// The faulted data areas that it reads, in order.
-    areas: Vec<(TrackAddress, u8)>,
+    areas: Vec<Area>,
 }
 
 /// What a reading left, in the library's byte forms.
@@ -53,7 +116,8 @@ impl Faultless {
             return Err(Proviso::TracksInTheExtent);
         }
         let mut storage = reading.storage.clone();
-        let run = reading.faultless(&mut storage);
+        let mut last = LastTwo::default();
+        let run = reading.faultless(&mut storage, &mut last);
         let run = run.expect("question 1 was answered yes");
         if run.mask.unwrap_or(0) & MASK_PCI_FETCH != 0 {
             return Err(Proviso::NoPciFetchMode);
@@ -61,12 +125,16 @@ impl Faultless {
         match run.end {
             End::Limit => Err(Proviso::EndsWithinTheLimit),
             End::ProgramCheck(_) => Err(Proviso::NoProgramCheck),
-            _ => Ok(Faultless {
-                extent,
-                csw: run.csw,
-                storage,
-                areas: faulted_areas(&run, &faults),
-            }),
+            _ => {
+                let at_read_count = AtReadCount::of(&run, &last, &faults);
+                Ok(Faultless {
+                    extent,
+                    csw: csw_of_reading(run.csw, at_read_count),
+                    at_read_count,
+                    storage,
+                    areas: faulted_areas(&run, &faults),
+                })
+            }
         }
     }
 
@@ -79,7 +147,7 @@ impl Faultless {
         if !left.ended {
             Some("it does not end")
         } else if csw != self.csw {
-            Some("its CSW is not the faultless run's")
+            Some("its CSW is not that of the faultless run, nor of a restart's 92 where it must be")
         } else if left.storage != self.storage {
             Some("storage is not as the faultless run leaves it")
         } else if !named.eq(self.areas.iter().copied()) {
@@ -97,8 +165,8 @@ impl Faultless {
     }
 }
 
-/// Each time a 06, 0E or 1E takes a record that the list names, even if it stores no byte.
-fn faulted_areas(run: &Outcome, faults: &FaultList) -> Vec<(TrackAddress, u8)> {
+/// Each time a read takes the data area of a record that the list names, even if it stores no byte.
+fn faulted_areas(run: &Outcome, faults: &FaultList) -> Vec<Area> {
     let taken = run.taken.iter().map(|area| (area.track, area.number));
     taken
         .filter(|&(track, number)| faults.of(track, number).is_some())
@@ -106,13 +174,14 @@ fn faulted_areas(run: &Outcome, faults: &FaultList) -> Vec<(TrackAddress, u8)> {
 }
 
 /// The record of a list's entry.
-fn record(entry: &[u8]) -> (TrackAddress, u8) {
+fn record(entry: &[u8]) -> Area {
     (TrackAddress::decode(&entry[1..5]), entry[5])
 }
 
 #[cfg(test)]
 mod tests {
     use super::*;
+    use crate::simulator::encode::ccw;
     use crate::simulator::sample;
 
     fn reading() -> GeneratedReading {
@@ -215,6 +284,44 @@ mod tests {
                 otherwise.is_some_and(|told| told.starts_with(part)),
                 "{part}"
             );
+        }
+    }
+
+    /// Whether the sample ends at the restart's 92, and with which CSW, where this R is faulted and the
+    /// seek is followed by a mask and by reads of R1 and R2 and one behind them.
+    fn end_behind(faulted: u8, mask: Option<u8>, command: u8) -> (bool, [u8; 8]) {
+        let mut reading = reading();
+        reading.faults[7] = faulted;
+        reading.chain.truncate(8);
+        if let Some(mask) = mask {
+            reading.chain.extend(ccw(0x1F, 11, 0x40, 1));
+            reading.arguments.push(mask);
+        }
+        for command in [0x06, 0x06, command] {
+            reading.chain.extend(ccw(command, 0, 0x40, 4));
+        }
+        let faultless = Faultless::of(&reading).unwrap();
+        (faultless.at_read_count.is_some(), faultless.csw)
+    }
+
+    #[test]
+    fn ends_at_the_restarts_92() {
+        for command in [0x86, 0x8E] {
+            let no_mask = (true, [0, 0, 0x10, 0x28, 0x0E, 0, 0, 8]);
+            assert_eq!(end_behind(2, None, command), no_mask);
+            for mask in [0x00, 0x18, 0xC0] {
+                let masked = (true, [0, 0, 0x10, 0x30, 0x0E, 0, 0, 8]);
+                assert_eq!(end_behind(2, Some(mask), command), masked);
+            }
+        }
+    }
+
+    #[test]
+    fn ends_in_the_chain() {
+        let in_the_chain = (false, [0, 0, 0, 0x20, 0x0E, 0, 0, 4]);
+        // No 86 or 8E; no step; no faulted data area before it.
+        for (faulted, command) in [(2, 0x92), (2, 0x9E), (2, 0x0F), (1, 0x86)] {
+            assert_eq!(end_behind(faulted, None, command), in_the_chain);
         }
     }
 

@@ -70,6 +70,7 @@ fn main() -> ExitCode {
             tally.compared,
         ),
         ("runs among these", tally.runs()),
+        ("runs with multitrack commands", tally.multitrack_runs()),
         ("recoveries among these", tally.recoveries()),
         ("readings among these", tally.readings()),
         ("readings that began", tally.begun.all),
@@ -79,6 +80,11 @@ fn main() -> ExitCode {
             tally.met.all,
         ),
         ("of these with two recoveries or more", tally.met.of_two),
+        ("readings with multitrack commands", tally.multitrack.all),
+        (
+            "of those with two recoveries or more",
+            tally.multitrack.of_two,
+        ),
     ] {
         println!("tried: {what}: {number}");
     }

@@ -5,8 +5,10 @@ use crate::simulator::channel::{
     Ccw, ReadEnd, Stretch, CCW_LENGTH, FLAG_CHAIN_DATA, RESTART_PROGRAM,
 };
 use crate::simulator::drive::{
-    Arriving, Done, UnitCheck, NO_SECTOR, READ_COUNT, READ_COUNT_KEY_DATA, READ_DATA,
-    READ_KEY_DATA, SET_FILE_MASK, SET_SECTOR,
+    is_multitrack, single_track, Arriving, Done, UnitCheck, MASK_SEEK_INHIBITED, NO_SECTOR,
+    READ_COUNT, READ_COUNT_KEY_DATA, READ_COUNT_MULTITRACK, READ_DATA, READ_DATA_MULTITRACK,
+    READ_KEY_DATA, READ_KEY_DATA_MULTITRACK, SEARCH_ID_EQUAL, SEARCH_ID_EQUAL_MULTITRACK,
+    SET_FILE_MASK, SET_SECTOR, TAKING_DATA,
 };
 use crate::simulator::run::{End, Outcome, Watch};
 use std::collections::BTreeSet;
@@ -25,6 +27,10 @@ pub enum Mark {
     NoData(u8),
     /// A faulted data area taken by this command.
     Faulted(u8),
+    /// The record whose count area the first of these commands passed, taken by the second.
+    Passed(u8, u8),
+    /// A step to the next head, mask bits 3 and 4 at this.
+    SteppedUnder(u8),
     Met(Event),
     /// Length of an area to answer in that is not as it must be.
     AnswerArea(usize),
@@ -59,11 +65,32 @@ rules! {
         // The counts ended before it, or its bytes were skipped.
         FaultedAreaNotStored,
         CcwOfTheChain,
+        // A command of a multitrack code, done or not.
+        Multitrack,
+        SearchStepped,
+        ReadStepped,
+        // In one read.
+        SteppedTwice,
+        SteppedOften,
     }
 }
 
 /// Lengths of areas to answer in, all wrong.
 pub const ANSWER_AREAS: [usize; 4] = [0, 35, 37, 72];
+
+/// What passes a count area, and what takes the data area behind it.
+const PASSING: [u8; 4] = [
+    SEARCH_ID_EQUAL,
+    SEARCH_ID_EQUAL_MULTITRACK,
+    READ_COUNT,
+    READ_COUNT_MULTITRACK,
+];
+const TAKING_PASSED: [u8; 4] = [
+    READ_DATA,
+    READ_KEY_DATA,
+    READ_DATA_MULTITRACK,
+    READ_KEY_DATA_MULTITRACK,
+];
 
 impl Mark {
     pub fn all() -> Vec<Mark> {
@@ -78,18 +105,24 @@ impl Mark {
         ];
         let senses = [
             Mark::Sense(0x80, 0, 0, 0),
+            Mark::Sense(0, 0x20, 0, 0),
             Mark::Sense(0, 0x08, 0, 0),
             Mark::Sense(0, 0x04, 0, 0),
             Mark::Sense(0x08, 0, 0x40, 0),
             Mark::Sense(0x08, 0, 0x40, 1),
         ];
-        let takes_data = [READ_DATA, READ_KEY_DATA, READ_COUNT_KEY_DATA];
+        let passed = PASSING.into_iter().flat_map(|passing| {
+            let taking = TAKING_PASSED.into_iter();
+            taking.map(move |taking| Mark::Passed(passing, taking))
+        });
         (COMMANDS.into_iter().map(Mark::Done))
             .chain(End::all().into_iter().map(Mark::Ended))
             .chain(statuses)
             .chain(senses)
-            .chain(takes_data.map(Mark::NoData))
-            .chain(takes_data.map(Mark::Faulted))
+            .chain(TAKING_DATA.map(Mark::NoData))
+            .chain(TAKING_DATA.map(Mark::Faulted))
+            .chain(passed)
+            .chain([0x00, 0x08, 0x10].map(Mark::SteppedUnder))
             .chain(Event::ALL.iter().copied().map(Mark::Met))
             .chain(ANSWER_AREAS.map(Mark::AnswerArea))
             .collect()
@@ -107,6 +140,8 @@ impl fmt::Display for Mark {
             }
             Mark::NoData(command) => write!(out, "no data for {command:02X}"),
             Mark::Faulted(command) => write!(out, "faulted data for {command:02X}"),
+            Mark::Passed(passing, taking) => write!(out, "{taking:02X} behind {passing:02X}"),
+            Mark::SteppedUnder(mask) => write!(out, "step under mask bits {mask:02X}"),
             Mark::Met(event) => write!(out, "{event:?}"),
             Mark::AnswerArea(length) => write!(out, "answer area of {length} bytes"),
         }
@@ -130,6 +165,11 @@ enum Before {
 pub struct Marks {
     seen: BTreeSet<Mark>,
     before: Before,
+    /// Code of the command before the present one.
+    command_before: u8,
+    /// Code of the present command.
+    command: u8,
+    mask: u8,
     /// Address of the present read's first CCW, and what its CCWs took.
     first: usize,
     stretches: Vec<Stretch>,
@@ -171,7 +211,10 @@ impl Marks {
     fn control(&mut self, command: u8, argument: &[u8]) {
         match (command, argument) {
             (SET_FILE_MASK, [0]) => self.meet(Event::MaskOfZerosSet),
-            (SET_FILE_MASK, _) => self.meet(Event::MaskSet),
+            (SET_FILE_MASK, mask) => {
+                self.mask = mask[0];
+                self.meet(Event::MaskSet);
+            }
             (SET_SECTOR, [NO_SECTOR]) => self.meet(Event::NoSectorSet),
             (SET_SECTOR, _) => self.meet(Event::SectorSet),
             _ => (),
@@ -192,7 +235,7 @@ impl Marks {
             self.see(Mark::Faulted(command));
         }
         self.meet_if(area.number == 0, Event::R0Read);
-        if command == READ_COUNT_KEY_DATA {
+        if single_track(command) == READ_COUNT_KEY_DATA {
             self.meet_if(arriving.data_start() > 8, Event::KeyRead);
             return;
         }
@@ -201,14 +244,18 @@ impl Marks {
             Before::Search { equal: true, .. } => self.meet(Event::ReadBehindEqualSearch),
             Before::Search { equal: false, .. } => self.meet(Event::ReadBehindUnequalSearch),
             Before::ReadCount => self.meet(Event::ReadBehindReadCount),
-            Before::Other => (),
+            Before::Other => return,
         }
+        self.see(Mark::Passed(self.command_before, command));
     }
 }
 
 impl Watch for Marks {
     fn command(&mut self, ccw: &Ccw, argument: &[u8], done: &Result<Done, UnitCheck>) {
         self.meet_if(ccw.at < RESTART_PROGRAM, Event::CcwOfTheChain);
+        self.meet_if(is_multitrack(ccw.command), Event::Multitrack);
+        self.command_before = self.command;
+        self.command = ccw.command;
         // What is refused ends the run, and is told by its end.
         let Ok(done) = done else {
             return;
@@ -231,9 +278,22 @@ impl Watch for Marks {
                 at: ccw.at,
                 equal: *equal,
             },
-            Done::Read(_) if ccw.command == READ_COUNT => Before::ReadCount,
+            Done::Read(_) if single_track(ccw.command) == READ_COUNT => Before::ReadCount,
             _ => Before::Other,
         };
+    }
+
+    fn steps(&mut self, steps: usize) {
+        if steps == 0 {
+            return;
+        }
+        self.see(Mark::SteppedUnder(self.mask & MASK_SEEK_INHIBITED));
+        match self.command {
+            SEARCH_ID_EQUAL_MULTITRACK => self.meet(Event::SearchStepped),
+            _ => self.meet(Event::ReadStepped),
+        }
+        self.meet_if(steps == 2, Event::SteppedTwice);
+        self.meet_if(steps > 2, Event::SteppedOften);
     }
 
     fn stretch(&mut self, stretch: &Stretch) {
@@ -298,10 +358,13 @@ mod tests {
             chain.truncate(CCW_LENGTH);
             chain.extend(ccws.as_flattened());
         }
-        let mut run = GeneratedRun {
+        marks_of(GeneratedRun {
             chain,
             ..sample::run()
-        };
+        })
+    }
+
+    fn marks_of(mut run: GeneratedRun) -> BTreeSet<Mark> {
         let mut marks = Marks::default();
         let outcome = run.watched(&mut marks).expect("the sample is not refused");
         marks.see_end(&outcome);
@@ -326,11 +389,36 @@ mod tests {
             Mark::Status(0x0E, 0x00),
             Mark::Sense(0x08, 0x00, 0x40, 0x00),
             Mark::Faulted(0x06),
+            Mark::Passed(0x31, 0x06),
             Mark::Met(Event::SearchLoop),
             Mark::Met(Event::ReadBehindEqualSearch),
             Mark::Met(Event::CcwOfTheChain),
         ];
         assert_eq!(marks(&[]), BTreeSet::from(expected));
+        assert!(expected.iter().all(|mark| Mark::all().contains(mark)));
+    }
+
+    #[test]
+    fn marks_over_two_heads() {
+        let mut run = sample::over_two_heads().into_run();
+        run.faults.clear();
+        let expected = [
+            Mark::Done(0x06),
+            Mark::Done(0x07),
+            Mark::Done(0x31),
+            Mark::Done(0x86),
+            Mark::Ended(End::UnitCheck(UnitCheck::EndOfCylinder)),
+            Mark::Status(0x0E, 0x00),
+            Mark::Sense(0x00, 0x20, 0x00, 0x00),
+            Mark::Passed(0x31, 0x06),
+            Mark::SteppedUnder(0x00),
+            Mark::Met(Event::SearchLoop),
+            Mark::Met(Event::ReadBehindEqualSearch),
+            Mark::Met(Event::CcwOfTheChain),
+            Mark::Met(Event::Multitrack),
+            Mark::Met(Event::ReadStepped),
+        ];
+        assert_eq!(marks_of(run), BTreeSet::from(expected));
         assert!(expected.iter().all(|mark| Mark::all().contains(mark)));
     }
 

@@ -1,7 +1,7 @@
 //! How often each answer, each broken rule and each mark of a run, a recovery or a reading was seen.
 
 use crate::library::{LIMIT, STOPPED};
-use crate::marks::Mark;
+use crate::marks::{Event, Mark};
 use crate::reading_marks::ReadingMark;
 use crate::recovery_marks::RecoveryMark;
 use crate::simulator::areas::Area;
@@ -72,10 +72,12 @@ const CALLS: [Call; 9] = [
 ];
 const RUN_CALLS: [Call; 2] = [RUN, RUN_RESTART];
 
-/// The fewest readings that are enough; of those that begin, and of those that meet the provisos of
-/// demand 3, one in three makes two recoveries or more.
+/// The fewest readings that are enough, and the fewest runs and readings with multitrack commands; of
+/// those readings that begin, of those that meet the provisos of demand 3 and of those with multitrack
+/// commands one in three makes two recoveries or more.
 const FEWEST_READINGS: u64 = 100_000;
 const FEWEST_MET: u64 = 30_000;
+const FEWEST_MULTITRACK: u64 = 100_000;
 const TWO_RECOVERIES_ONCE_IN: u64 = 3;
 
 type Answers = BTreeMap<u8, u64>;
@@ -111,6 +113,8 @@ pub struct Tally {
     pub begun: Readings,
     /// Of these, where the provisos of demand 3 are met.
     pub met: Readings,
+    /// Of those begun, where a multitrack command was begun.
+    pub multitrack: Readings,
 }
 
 impl Tally {
@@ -146,16 +150,26 @@ impl Tally {
     }
 
     /// Counts a reading that was not refused.
-    pub fn count_reading(&mut self, recoveries: usize, provisos_met: bool) {
+    pub fn count_reading(&mut self, recoveries: usize, provisos_met: bool, is_multitrack: bool) {
         self.begun.count(recoveries);
         if provisos_met {
             self.met.count(recoveries);
+        }
+        if is_multitrack {
+            self.multitrack.count(recoveries);
         }
     }
 
     /// Runs compared.
     pub fn runs(&self) -> u64 {
         RUN_CALLS.iter().map(|&call| self.calls(call)).sum()
+    }
+
+    /// Of them, those in which a multitrack command was begun.
+    pub fn multitrack_runs(&self) -> u64 {
+        let mark = Mark::Met(Event::Multitrack);
+        let runs = RUN_CALLS.iter().map(|&call| self.runs_with(call, mark));
+        runs.sum()
     }
 
     /// Recoveries compared.
@@ -252,7 +266,7 @@ impl Tally {
             .collect()
     }
 
-    /// What there are too few readings of.
+    /// What there are too few of.
     pub fn too_few(&self) -> Vec<&'static str> {
         [
             (self.readings() >= FEWEST_READINGS, "readings"),
@@ -267,6 +281,18 @@ impl Tally {
             (
                 self.met.have_two_often(),
                 "such readings with two recoveries or more",
+            ),
+            (
+                self.multitrack_runs() >= FEWEST_MULTITRACK,
+                "runs with multitrack commands",
+            ),
+            (
+                self.multitrack.all >= FEWEST_MULTITRACK,
+                "readings with multitrack commands",
+            ),
+            (
+                self.multitrack.have_two_often(),
+                "of these with two recoveries or more",
             ),
         ]
         .into_iter()

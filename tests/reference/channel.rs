@@ -145,8 +145,8 @@ fn named_areas(book: &Book) -> Checked {
     let from = format!("restart arguments, from {arguments:04X} on");
     let expected = [
         ["TIC", "a CCW of the chain", &below],
-        ["07, 1F, 23, 31", "arguments", &from],
-        ["06, 0E, 12, 1E, 1A", "storage", "storage"],
+        ["07, 1F, 23, 31, B1", "arguments", &from],
+        ["06, 0E, 12, 1E, 1A, 86, 8E, 92, 9E", "storage", "storage"],
         ["03 and unlisted codes", "nothing", "nothing"],
     ];
     ensure!(
@@ -335,11 +335,11 @@ fn ends(book: &Book) -> Checked {
     table.has(&[
         "program check",
         "03",
-        "07, 1F, 23, 31",
+        "07, 1F, 23, 31, B1",
         "read",
         "read of a faulted data area",
         "read of an empty data area",
-        "command reject, file protected, no record found",
+        "command reject, file protected, no record found, end of cylinder",
     ])?;
     let cc = book.flag("CC")?;
     let seek = |head: u8| vec![0, 0, 0, 0, 0, head];
@@ -348,11 +348,12 @@ fn ends(book: &Book) -> Checked {
         let trials: Vec<(Vec<u8>, Vec<u8>, usize)> = match (end, left) {
             ("program check", "0") => vec![(book.ccw(0x1A, 60, 0, 5)?, vec![], 0)],
             ("03", "its count") => vec![(book.ccw(0x03, 0, 0, 77)?, vec![], 77)],
-            ("07, 1F, 23, 31", "0") => vec![
+            ("07, 1F, 23, 31, B1", "0") => vec![
                 (book.ccw(0x07, 0, 0, 6)?, seek(0), 0),
                 (book.ccw(0x1F, 0, 0, 1)?, seek(0), 0),
                 (book.ccw(0x23, 0, 0, 1)?, seek(0), 0),
                 (book.ccw(0x31, 0, 0, 5)?, seek(0), 0),
+                (book.ccw(0xB1, 0, 0, 5)?, seek(0), 0),
             ],
             ("read", "what its current CCW has left") => {
                 vec![(book.ccw(0x1A, 0, 0, 9)?, vec![], 4)]
@@ -366,10 +367,12 @@ fn ends(book: &Book) -> Checked {
             }
             (_, "the command's whole count") => {
                 let alone = [book.ccw(0x07, 0, cc, 6)?, book.ccw(0x06, 0, 0, 9)?];
+                let last = [book.ccw(0x07, 0, cc, 6)?, book.ccw(0x86, 0, 0, 9)?];
                 let masked = [book.ccw(0x1F, 6, cc, 1)?, book.ccw(0x07, 0, 0, 6)?];
                 vec![
                     (book.ccw(0x02, 0, 0, 9)?, vec![], 9),
                     (alone.concat(), seek(1), 9),
+                    (last.concat(), seek(18), 9),
                     (masked.concat(), [seek(0), vec![0x10]].concat(), 6),
                 ]
             }

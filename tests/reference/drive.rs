@@ -1,10 +1,10 @@
 //! The drive: commands, file mask, position, unit checks.
 
 use super::book::{Book, Ran, COMMANDS, KEPT};
-use super::bytes::{bytes, hex, number, value, Checked};
+use super::bytes::{byte, bytes, hex, number, value, Checked};
 use super::channel::shown;
 use super::inputs::worked;
-use crate::simulator::drive::{NotFoundRule, RejectRule, UnitCheck};
+use crate::simulator::drive::{single_track, NotFoundRule, ProtectedRule, RejectRule, UnitCheck};
 use crate::simulator::held::HeldRun;
 use crate::simulator::run::End;
 
@@ -114,7 +114,7 @@ fn stored(book: &Book) -> Checked {
         let code = hex(code)? as u8;
         let size = match code {
             0x07 => 6,
-            0x31 => 5,
+            0x31 | 0xB1 => 5,
             0x1F | 0x23 => 1,
             _ => 40,
         };
@@ -152,8 +152,9 @@ fn argument(book: &Book, code: &str, what: &str) -> Checked {
             }
             all
         }
-        ("31", "argument: cylinder 2, head 2, R 1") => {
-            equal(book, &[], &[0, 0, 0, 0, 0])? && !equal(book, &[], &[0, 0, 0, 0, 1])?
+        ("31" | "B1", "argument: cylinder 2, head 2, R 1") => {
+            let code = hex(code)? as u8;
+            equal(book, &[], code, &[0, 0, 0, 0, 0])? && !equal(book, &[], code, &[0, 0, 0, 0, 1])?
         }
         _ => false,
     };
@@ -165,7 +166,7 @@ fn argument(book: &Book, code: &str, what: &str) -> Checked {
 fn on_the_way(book: &Book, code: u8) -> Result<Vec<u8>, String> {
     let cc = book.flag("CC")?;
     match code {
-        0x31 => book.ccw(code, 0, cc, 5),
+        0x31 | 0xB1 => book.ccw(code, 0, cc, 5),
         0x07 => book.ccw(code, 8, cc, 6),
         0x1F | 0x23 => book.ccw(code, 8, cc, 1),
         0x03 => book.ccw(code, 0, cc, 1),
@@ -176,43 +177,56 @@ fn on_the_way(book: &Book, code: u8) -> Result<Vec<u8>, String> {
 /// An ID that no track has, then zeros.
 const ARGUMENTS: [u8; 16] = [0, 0, 0, 0, 0x63, 0, 0, 0, 0, 0, 0, 0, 0, 0, 0, 0];
 
-/// Which record of track 000/00 a read takes behind these commands.
-fn taken(book: &Book, before: &[u8], code: u8) -> Result<usize, String> {
+/// Which record a read takes behind these commands: "R1", or "R1 of 000/02" on another head.
+fn taken(book: &Book, before: &[u8], code: u8) -> Result<String, String> {
     let mut chain = Vec::new();
     for &code in before {
         chain.extend(on_the_way(book, code)?);
     }
     chain.extend(book.ccw(code, 0, book.flag("SLI")?, 40)?);
     let ran = book.run_example(chain, ARGUMENTS.to_vec())?;
-    let records: [(usize, &[u8], &[u8]); 3] = [
-        (0, &[], &[0; 8]),
-        (1, &[], &[0xC1, 0xC2, 0xC3, 0xC4]),
-        (2, &[0xE1, 0xE2], &[0xD1, 0xD2, 0xD3, 0xD4]),
+    let records: [(usize, usize, &[u8], &[u8]); 4] = [
+        (0, 0, &[], &[0; 8]),
+        (0, 1, &[], &[0xC1, 0xC2, 0xC3, 0xC4]),
+        (0, 2, &[0xE1, 0xE2], &[0xD1, 0xD2, 0xD3, 0xD4]),
+        (2, 1, &[], &[]),
     ];
-    for (number, key, data) in records {
-        let count = book.record_contents((0, 0), number, key, data)?[..8].to_vec();
-        let mut bytes = match code {
+    let exception: usize = book.status("channel end+device end+unit exception")?.into();
+    for (head, number, key, data) in records {
+        let count = book.record_contents((0, head), number, key, data)?[..8].to_vec();
+        let form = single_track(code);
+        let mut bytes = match form {
             0x06 => data.to_vec(),
             0x0E => [key, data].concat(),
             0x12 => count,
             _ => [&count, key, data].concat(),
         };
         bytes.resize(40, KEPT);
-        if ran.storage[..40] == bytes {
-            return Ok(number);
+        let is_empty = form != 0x12 && data.is_empty();
+        let shows_exception = shown(book, &ran, "unit status")? == exception;
+        if ran.storage[..40] == bytes && shows_exception == is_empty {
+            return Ok(named(head, number));
         }
     }
     Err(format!("{code:02X} behind {before:02X?} takes no record"))
 }
 
+/// A record as the page names it where the drive stood on 000/00.
+fn named(head: usize, number: usize) -> String {
+    match head {
+        0 => format!("R{number}"),
+        _ => format!("R{number} of 000/{head:02}"),
+    }
+}
+
 /// Whether a search for this ID is equal behind these commands: it leaves out a CCW.
-fn equal(book: &Book, before: &[u8], id: &[u8]) -> Result<bool, String> {
+fn equal(book: &Book, before: &[u8], code: u8, id: &[u8]) -> Result<bool, String> {
     let mut chain = Vec::new();
     for &code in before {
         chain.extend(on_the_way(book, code)?);
     }
     let at = chain.len();
-    chain.extend(book.ccw(0x31, ARGUMENTS.len(), book.flag("CC")?, 5)?);
+    chain.extend(book.ccw(code, ARGUMENTS.len(), book.flag("CC")?, 5)?);
     chain.extend(book.ccw(0x03, 0, 0, 1)?.repeat(2));
     let ran = book.run_example(chain, [&ARGUMENTS[..], id].concat())?;
     match shown(book, &ran, "address")? - at {
@@ -226,20 +240,19 @@ fn equal(book: &Book, before: &[u8], id: &[u8]) -> Result<bool, String> {
 fn stands(book: &Book) -> Checked {
     for [code, _, _, _, stands] in book.page.table("Commands", &COMMANDS)?.each() {
         let expected = match stands {
-            "at the index" => (1, 1),
-            "behind a count area" => (2, 1),
-            "behind a record" => (1, 1),
+            "at the index" | "behind a record" => ("R1", "R1"),
+            "behind a count area" => ("R2", "R1"),
             _ => return Err(format!("{code}: stands '{stands}'")),
         };
         let before = [0x06, hex(code)? as u8];
         let seen = (taken(book, &before, 0x06)?, taken(book, &before, 0x12)?);
         ensure!(
-            seen == expected,
-            "{code}: R{} and R{} follow",
+            (&seen.0[..], &seen.1[..]) == expected,
+            "{code}: {} and {} follow",
             seen.0,
             seen.1
         );
-        let index = equal(book, &before, &[0, 0, 0, 0, 0])?;
+        let index = equal(book, &before, 0x31, &[0, 0, 0, 0, 0])?;
         ensure!(index, "{code}: R0 is not examined next");
         // Behind a record the way goes by the index, at the index it does not.
         let passes = passes(book, &before)?;
@@ -304,15 +317,31 @@ fn file_mask(book: &Book) -> Checked {
 
 // ---- position
 
+/// On one track by the single-track forms, over heads by the multitrack ones.
 fn position(book: &Book) -> Checked {
+    position_of(
+        book,
+        "Position",
+        ["06, 0E take", "12, 1E take", "31 examines"],
+    )?;
+    position_of(book, "Steps", ["86, 8E take", "92, 9E take", "B1 examines"])
+}
+
+/// The codes that a column begins with.
+fn codes_of(column: &str) -> Result<Vec<u8>, String> {
+    let (codes, _) = column.rsplit_once(' ').ok_or("no codes")?;
+    codes.split(", ").map(byte).collect()
+}
+
+fn position_of(book: &Book, heading: &str, [of_data, of_count, of_search]: [&str; 3]) -> Checked {
     let columns = [
         "the drive stands",
         "reached by",
-        "06, 0E take",
-        "12, 1E take",
-        "31 examines",
+        of_data,
+        of_count,
+        of_search,
     ];
-    let table = book.page.table("Position", &columns)?;
+    let table = book.page.table(heading, &columns)?;
     table.has(&[
         "at the index",
         "behind the count area of R0",
@@ -321,28 +350,26 @@ fn position(book: &Book) -> Checked {
         "behind the count area of R2, the last",
         "behind R2, the last",
     ])?;
-    for [stands, reached, of_data, of_count, examined] in table.each() {
+    for [stands, reached, data, count, examined] in table.each() {
         let before = bytes(reached)?;
-        let record = |text: &str| {
-            let number_of = text.strip_prefix('R');
-            number(number_of.ok_or(format!("'{text}' is no record"))?)
-        };
-        for (code, expected) in [
-            (0x06, of_data),
-            (0x0E, of_data),
-            (0x12, of_count),
-            (0x1E, of_count),
-        ] {
-            let taken = taken(book, &before, code)?;
-            ensure!(
-                taken == record(expected)?,
-                "{stands}: {code:02X} takes R{taken}"
-            );
+        for (column, expected) in [(of_data, data), (of_count, count)] {
+            for code in codes_of(column)? {
+                let taken = taken(book, &before, code)?;
+                ensure!(
+                    taken == expected,
+                    "{heading}, {stands}: {code:02X} takes {taken}"
+                );
+            }
         }
-        for id in 0..=2u8 {
-            let equal = equal(book, &before, &[0, 0, 0, 0, id])?;
-            let expected = usize::from(id) == record(examined)?;
-            ensure!(equal == expected, "{stands}: a search of R{id}");
+        for code in codes_of(of_search)? {
+            for (head, number) in [(0, 0), (0, 1), (0, 2), (1, 0), (2, 0), (2, 1)] {
+                let equal = equal(book, &before, code, &[0, 0, 0, head, number])?;
+                let expected = named(head.into(), number.into()) == examined;
+                ensure!(
+                    equal == expected,
+                    "{heading}, {stands}: a search of R{number} of head {head}"
+                );
+            }
         }
     }
     Ok(())
@@ -351,17 +378,17 @@ fn position(book: &Book) -> Checked {
 // ---- unit checks
 
 fn unit_checks(book: &Book) -> Checked {
-    use UnitCheck::{FileProtected, NoRecordFound, Reject};
+    use UnitCheck::{EndOfCylinder, FileProtected, NoRecordFound, Reject};
     let reject = |rule| End::UnitCheck(Reject(rule));
     let not_found = |rule| End::UnitCheck(NoRecordFound(rule));
     let causes = [
         ("an unlisted code", reject(RejectRule::OtherCommand)),
         (
-            "07, 1F, 23 or 31 with another count",
+            "07, 1F, 23, 31 or B1 with another count",
             reject(RejectRule::WrongCount),
         ),
         (
-            "CD in 03, 07, 1F, 23 or 31",
+            "CD in 03, 07, 1F, 23, 31 or B1",
             reject(RejectRule::ChainedData),
         ),
         ("a second 1F in a run", reject(RejectRule::SecondMask)),
@@ -377,8 +404,13 @@ fn unit_checks(book: &Book) -> Checked {
         ),
         (
             "07 under a mask with bit 3 or 4",
-            End::UnitCheck(FileProtected),
+            End::UnitCheck(FileProtected(ProtectedRule::Seek)),
         ),
+        (
+            "a step under a mask with bits 3 and 4",
+            End::UnitCheck(FileProtected(ProtectedRule::Step)),
+        ),
+        ("a step past head 18", End::UnitCheck(EndOfCylinder)),
         (
             "a search or read where the image has no such track",
             not_found(NotFoundRule::TrackNotInImage),
@@ -392,7 +424,11 @@ fn unit_checks(book: &Book) -> Checked {
             not_found(NotFoundRule::R0Alone),
         ),
         (
-            "06, 0E or 1E of a record with data length 0",
+            "a step to a head whose track the image lacks",
+            not_found(NotFoundRule::NextHeadNotInImage),
+        ),
+        (
+            "06, 0E, 1E, 86, 8E or 9E of a record with data length 0",
             End::UnitException,
         ),
     ];
@@ -429,7 +465,8 @@ fn unit_checks(book: &Book) -> Checked {
         );
         let named = match rule.map(|(_, end)| *end) {
             Some(End::UnitCheck(Reject(_))) => "command reject",
-            Some(End::UnitCheck(FileProtected)) => "file protected",
+            Some(End::UnitCheck(FileProtected(_))) => "file protected",
+            Some(End::UnitCheck(EndOfCylinder)) => "end of cylinder",
             Some(End::UnitException) => "unit exception",
             _ => "no record found",
         };

@@ -230,7 +230,10 @@ fn nine_of_five(book: &Book) -> Checked {
             Cut(CutRule::NotInTheChain),
         ),
         ("field 12 is a multiple of 8", Cut(CutRule::NotInTheChain)),
-        ("that CCW is a 06, 0E or 1E", Cut(CutRule::OtherCommand)),
+        (
+            "that CCW is a 06, 0E, 1E, 86, 8E or 9E",
+            Cut(CutRule::OtherCommand),
+        ),
         (
             "the error displacement is not 0",
             Cut(CutRule::NoErrorDisplacement),
@@ -283,9 +286,14 @@ fn nine_of_five(book: &Book) -> Checked {
     not_asked(book)
 }
 
-/// What question 9 leaves unasked, as the page says.
+/// What question 9 leaves unasked, as the page says, and each command that it takes.
 fn not_asked(book: &Book) -> Checked {
     for change in [
+        "ccw 0018 = 0E",
+        "ccw 0018 = 1E",
+        "ccw 0018 = 86",
+        "ccw 0018 = 8E",
+        "ccw 0018 = 9E",
         "sense 12 = 99",
         "sense 23 = 01",
         "csw = 00 000020 F1 9F 0000",

@@ -34,8 +34,8 @@ fn bit_3(book: &Book) -> Checked {
 }
 
 /// The commands behind a cut that make it 5, and 5A.
-const AFTER_FIVE: [u8; 5] = [0x12, 0x1A, 0x1E, 0x1F, 0x31];
-const AFTER_FIVE_A: [u8; 5] = [0x03, 0x06, 0x07, 0x0E, 0x23];
+const AFTER_FIVE: [u8; 8] = [0x12, 0x1A, 0x1E, 0x1F, 0x31, 0x92, 0x9E, 0xB1];
+const AFTER_FIVE_A: [u8; 7] = [0x03, 0x06, 0x07, 0x0E, 0x23, 0x86, 0x8E];
 
 /// What a restart is built from.
 struct Case {
@@ -80,7 +80,10 @@ fn each_action(book: &Book) -> Checked {
     }
     for case in &cases {
         let (program, arguments) = assembled(book, case)?;
-        let what = format!("action {}, mask {:02X?}", case.action, case.mask);
+        let what = format!(
+            "action {} before {:02X}, mask {:02X?}",
+            case.action, case.next, case.mask
+        );
         let recovered = book.recover(held(book, case)?)?;
         ensure!(
             recovered.number == 0 && book.answers.get("restart") == Some(&recovered.what),
@@ -214,7 +217,8 @@ fn program(book: &Book, case: &Case, go_on: usize) -> Result<Vec<u8>, String> {
         let is_built = match built {
             "always" => true,
             "where a mask was set" => case.mask.is_some(),
-            "in 5A" => case.action == "5A",
+            "in 5A before 86 and 8E" => case.action == "5A" && [0x86, 0x8E].contains(&case.next),
+            "in 5A before all others" => case.action == "5A" && ![0x86, 0x8E].contains(&case.next),
             _ => return Err(format!("{step}: built '{built}'")),
         };
         if !is_built {

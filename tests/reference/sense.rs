@@ -74,7 +74,12 @@ fn others(book: &Book) -> Checked {
     let table = book
         .page
         .table("Sense", &["check", "bit", "byte", "value"])?;
-    table.has(&["command reject", "no record found", "file protected"])?;
+    table.has(&[
+        "command reject",
+        "end of cylinder",
+        "no record found",
+        "file protected",
+    ])?;
     for [check, bit, place, on] in table.each() {
         let mut sense = vec![0; 24];
         sense[number(place)?] = byte(on)?;
@@ -85,6 +90,10 @@ fn others(book: &Book) -> Checked {
         let cc = book.flag("CC")?;
         let (chain, arguments) = match check {
             "command reject" => (book.ccw(0x02, 0, 0, 1)?, vec![]),
+            "end of cylinder" => {
+                let chain = [book.ccw(0x07, 0, cc, 6)?, book.ccw(0x92, 0, 0, 8)?];
+                (chain.concat(), vec![0, 0, 0, 0, 0, 18])
+            }
             "no record found" => {
                 let chain = [book.ccw(0x07, 0, cc, 6)?, book.ccw(0x1A, 0, 0, 5)?];
                 (chain.concat(), vec![0, 0, 0, 0, 0, 9])
@@ -137,35 +146,43 @@ fn displacements(book: &Book) -> Checked {
         "first wrong byte",
     ];
     let table = book.page.table("Displacements", &columns)?;
-    table.has(&["06", "0E", "1E"])?;
-    for [code, front, restart, error, wrong] in table.each() {
-        let held = |faults: Vec<u8>| {
-            let chain = [
-                book.ccw(0x06, 60, book.flag("CC")?, 4)?,
-                book.ccw(byte(code)?, 0, book.flag("SLI")?, 40)?,
-            ];
-            book.run(HeldRun {
-                chain: chain.concat(),
-                storage: vec![KEPT; 64],
-                image: book.pack()?,
-                faults,
-                ..HeldRun::default()
-            })
-        };
-        let good = held(vec![])?.storage;
-        let ran = held(book.fault((0, 0), 2, 3, 0xFF_00_00)?)?;
-        ensure!(
-            value(&ran.sense[15..18]) == number(restart)?,
-            "{code}: restart displacement"
-        );
-        ensure!(
-            value(&ran.sense[18..20]) == number(error)?,
-            "{code}: error displacement"
-        );
-        let first = (0..40).find(|&at| ran.storage[at] != good[at]);
-        ensure!(first == Some(number(wrong)?), "{code}: wrong at {first:?}");
-        let data = (0..40).find(|&at| good[at] == 0xD1);
-        ensure!(data == Some(number(front)?), "{code}: data at {data:?}");
+    table.has(&["06, 86", "0E, 8E", "1E, 9E"])?;
+    for [codes, front, restart, error, wrong] in table.each() {
+        for code in codes.split(", ") {
+            displaced(book, code, [front, restart, error, wrong])?;
+        }
     }
+    Ok(())
+}
+
+/// A row of the displacements, for one of its commands.
+fn displaced(book: &Book, code: &str, [front, restart, error, wrong]: [&str; 4]) -> Checked {
+    let held = |faults: Vec<u8>| {
+        let chain = [
+            book.ccw(0x06, 60, book.flag("CC")?, 4)?,
+            book.ccw(byte(code)?, 0, book.flag("SLI")?, 40)?,
+        ];
+        book.run(HeldRun {
+            chain: chain.concat(),
+            storage: vec![KEPT; 64],
+            image: book.pack()?,
+            faults,
+            ..HeldRun::default()
+        })
+    };
+    let good = held(vec![])?.storage;
+    let ran = held(book.fault((0, 0), 2, 3, 0xFF_00_00)?)?;
+    ensure!(
+        value(&ran.sense[15..18]) == number(restart)?,
+        "{code}: restart displacement"
+    );
+    ensure!(
+        value(&ran.sense[18..20]) == number(error)?,
+        "{code}: error displacement"
+    );
+    let first = (0..40).find(|&at| ran.storage[at] != good[at]);
+    ensure!(first == Some(number(wrong)?), "{code}: wrong at {first:?}");
+    let data = (0..40).find(|&at| good[at] == 0xD1);
+    ensure!(data == Some(number(front)?), "{code}: data at {data:?}");
     Ok(())
 }

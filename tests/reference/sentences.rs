@@ -5,10 +5,11 @@ use super::bytes::Checked;
 use super::channel::shown;
 use super::questions::changed;
 use crate::simulator::held::{HeldRestart, HeldRun};
+use crate::simulator::sample;
 
 type Trial = fn(&Book) -> Result<bool, String>;
 
-const SENTENCES: [(&str, Trial); 11] = [
+const SENTENCES: [(&str, Trial); 14] = [
     ("CD goes before CC.", data_chaining_first),
     (
         "A seek to a track that the image lacks is done; it is the next search or read that fails.",
@@ -18,6 +19,19 @@ const SENTENCES: [(&str, Trial); 11] = [
         "A control command, a read and an equal search begin the count anew; a read's own way round \
          is not counted.",
         count_begins_anew,
+    ),
+    (
+        "a step begins it anew too.",
+        step_begins_anew,
+    ),
+    (
+        "A step is file protected where mask bits 3 and 4 are both on; one of them alone leaves it.",
+        protected_steps,
+    ),
+    (
+        "Then the CSW is that of the restart's 92: address 001028, or 001030 where a mask was set, and \
+         count left 8.",
+        ends_at_the_restarts_92,
     ),
     (
         "a seek that the mask forbids is rejected where its argument is wrong.",
@@ -168,6 +182,53 @@ fn count_begins_anew(book: &Book) -> Result<bool, String> {
         }
     }
     Ok(true)
+}
+
+/// Searches of 000/00 pass the index once; behind a B1 from its last record to 000/01, with R0 alone,
+/// one more does, and the next finds none.
+fn step_begins_anew(book: &Book) -> Result<bool, String> {
+    let cc = book.flag("CC")?;
+    let search = book.ccw(0x31, 0, cc, 5)?;
+    let chain = [
+        search.repeat(6),
+        book.ccw(0xB1, 0, cc, 5)?,
+        search.repeat(3),
+    ];
+    let ran = book.run_example(chain.concat(), vec![0, 0, 0, 0, 0x63])?;
+    let second = (6 + 1 + 2) * 8;
+    Ok(ran.sense[..3] == book.sense_bits("1.4")? && csw(book, &ran)?.2 == second)
+}
+
+/// A read that begins on 000/01, with R0 alone.
+fn protected_steps(book: &Book) -> Result<bool, String> {
+    let cc = book.flag("CC")?;
+    let chain = [
+        book.ccw(0x07, 0, cc, 6)?,
+        book.ccw(0x1F, 6, cc, 1)?,
+        book.ccw(0x92, 0, 0, 8)?,
+    ];
+    let mut holds = true;
+    for (mask, protected) in [(0x00, false), (0x08, false), (0x10, false), (0x18, true)] {
+        let ran = book.run_example(chain.concat(), [seek(1), vec![mask]].concat())?;
+        holds &= (ran.sense[..3] == book.sense_bits("1.5")?) == protected;
+        holds &= (ran.sense == [0; 24]) != protected;
+    }
+    Ok(holds)
+}
+
+/// An 86 that End of Cylinder ends, right behind a read that is cut.
+fn ends_at_the_restarts_92(book: &Book) -> Result<bool, String> {
+    let unit = book.status("channel end+device end+unit check")?;
+    let held = sample::over_two_heads();
+    let mut masked = held.clone();
+    masked
+        .chain
+        .splice(..0, book.ccw(0x1F, 11, book.flag("CC")?, 1)?);
+    // The TIC leads 8 further.
+    masked.chain[0x1B] += 8;
+    masked.arguments.push(0xC0);
+    Ok(book.read(held)?.csw == book.csw_of(0x1028, unit, 0, 8)?
+        && book.read(masked)?.csw == book.csw_of(0x1030, unit, 0, 8)?)
 }
 
 fn reject_first(book: &Book) -> Result<bool, String> {

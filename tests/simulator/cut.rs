@@ -1,7 +1,7 @@
 //! Question 9 for action 5: the read that a faulted data area cut, as report and chain give it.
 
 use super::channel::{Channel, Program, ReadEnd, Stretch};
-use super::drive::{LAST_SECTOR, READ_COUNT_KEY_DATA, READ_DATA, READ_KEY_DATA};
+use super::drive::{LAST_SECTOR, TAKING_DATA};
 use super::pack::LONGEST_RECORD;
 use super::report::Report;
 use super::Refusal;
@@ -39,7 +39,7 @@ impl CutRead {
         let first = channel
             .fetch_one(report.first)
             .map_err(|_| Refusal::Cut(CutRule::NotInTheChain))?;
-        if ![READ_DATA, READ_KEY_DATA, READ_COUNT_KEY_DATA].contains(&first.command) {
+        if !TAKING_DATA.contains(&first.command) {
             return Err(Refusal::Cut(CutRule::OtherCommand));
         }
         let mut stretches = Vec::new();
@@ -157,6 +157,17 @@ mod tests {
         ];
         for (change, rule) in changes {
             assert_eq!(refused(&chain(), change), Some(Refusal::Cut(rule)));
+        }
+    }
+
+    #[test]
+    fn each_command_that_takes_data() {
+        let taking = [0x06, 0x0E, 0x1E, 0x86, 0x8E, 0x9E];
+        for command in 0..=255 {
+            let mut chain = chain();
+            chain[8] = command;
+            let other = (!taking.contains(&command)).then_some(CutRule::OtherCommand);
+            assert_eq!(refused(&chain, |_| ()), other.map(Refusal::Cut));
         }
     }
 

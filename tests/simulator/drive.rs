@@ -1,8 +1,8 @@
-//! The drive: one command at one place of one track, sense.
+//! The drive: one command at one place of one track, or of a head behind it; sense.
 
 use super::encode;
 use super::faults::{Fault, FaultList};
-use super::pack::{Pack, Record, TrackAddress};
+use super::pack::{Pack, Record, TrackAddress, LAST_HEAD};
 use std::borrow::Cow;
 
 pub const NO_OPERATION: u8 = 0x03;
@@ -16,7 +16,40 @@ pub const READ_COUNT: u8 = 0x12;
 pub const READ_COUNT_KEY_DATA: u8 = 0x1E;
 pub const READ_HOME_ADDRESS: u8 = 0x1A;
 
-/// Bits 3 and 4.
+// Multitrack forms of a search and of four reads.
+pub const SEARCH_ID_EQUAL_MULTITRACK: u8 = 0xB1;
+pub const READ_DATA_MULTITRACK: u8 = 0x86;
+pub const READ_KEY_DATA_MULTITRACK: u8 = 0x8E;
+pub const READ_COUNT_MULTITRACK: u8 = 0x92;
+pub const READ_COUNT_KEY_DATA_MULTITRACK: u8 = 0x9E;
+
+/// Those that take a record's data area.
+pub const TAKING_DATA: [u8; 6] = [
+    READ_DATA,
+    READ_KEY_DATA,
+    READ_COUNT_KEY_DATA,
+    READ_DATA_MULTITRACK,
+    READ_KEY_DATA_MULTITRACK,
+    READ_COUNT_KEY_DATA_MULTITRACK,
+];
+
+/// The single-track form of a multitrack command; every other code is its own.
+pub fn single_track(command: u8) -> u8 {
+    match command {
+        SEARCH_ID_EQUAL_MULTITRACK => SEARCH_ID_EQUAL,
+        READ_DATA_MULTITRACK => READ_DATA,
+        READ_KEY_DATA_MULTITRACK => READ_KEY_DATA,
+        READ_COUNT_MULTITRACK => READ_COUNT,
+        READ_COUNT_KEY_DATA_MULTITRACK => READ_COUNT_KEY_DATA,
+        _ => command,
+    }
+}
+
+pub fn is_multitrack(command: u8) -> bool {
+    single_track(command) != command
+}
+
+/// Bits 3 and 4: any of them inhibits a seek, both a step.
 pub const MASK_SEEK_INHIBITED: u8 = 0x18;
 /// Bits 2, 5 and 6.
 pub const MASK_REJECTED: u8 = 0x26;
@@ -34,7 +67,7 @@ pub enum Operand {
 
 impl Operand {
     pub fn of(command: u8) -> Operand {
-        match command {
+        match single_track(command) {
             SEEK | SET_FILE_MASK | SET_SECTOR | SEARCH_ID_EQUAL => Operand::Argument,
             READ_DATA | READ_KEY_DATA | READ_COUNT | READ_COUNT_KEY_DATA | READ_HOME_ADDRESS => {
                 Operand::Storage
@@ -62,6 +95,16 @@ rules! {
         TrackNotInImage,
         IndexPassedTwice,
         R0Alone,
+        // A step led there.
+        NextHeadNotInImage,
+    }
+}
+
+rules! {
+    /// What the file mask forbids.
+    ProtectedRule {
+        Seek,
+        Step,
     }
 }
 
@@ -69,21 +112,45 @@ rules! {
 #[derive(Clone, Copy, Debug, PartialEq, Eq, PartialOrd, Ord)]
 pub enum UnitCheck {
     Reject(RejectRule),
-    FileProtected,
+    FileProtected(ProtectedRule),
     NoRecordFound(NotFoundRule),
+    /// There is no head behind.
+    EndOfCylinder,
 }
 
 pub type Sense = [u8; 24];
 
 impl UnitCheck {
+    pub fn all() -> Vec<UnitCheck> {
+        let rejects = RejectRule::ALL.iter().copied().map(UnitCheck::Reject);
+        let not_found = NotFoundRule::ALL.iter().copied();
+        let protected = ProtectedRule::ALL.iter().copied();
+        rejects
+            .chain(not_found.map(UnitCheck::NoRecordFound))
+            .chain(protected.map(UnitCheck::FileProtected))
+            .chain([UnitCheck::EndOfCylinder])
+            .collect()
+    }
+
     pub fn sense(self) -> Sense {
         let mut sense = [0; 24];
         match self {
             UnitCheck::Reject(_) => sense[0] = 0x80,
+            UnitCheck::EndOfCylinder => sense[1] = 0x20,
             UnitCheck::NoRecordFound(_) => sense[1] = 0x08,
-            UnitCheck::FileProtected => sense[1] = 0x04,
+            UnitCheck::FileProtected(_) => sense[1] = 0x04,
         }
         sense
+    }
+
+    /// Whether a step to the next head ended the command.
+    pub fn is_of_a_step(self) -> bool {
+        matches!(
+            self,
+            UnitCheck::EndOfCylinder
+                | UnitCheck::FileProtected(ProtectedRule::Step)
+                | UnitCheck::NoRecordFound(NotFoundRule::NextHeadNotInImage)
+        )
     }
 }
 
@@ -122,7 +189,7 @@ pub struct Arriving<'d> {
     front: Cow<'d, [u8]>,
     key: &'d [u8],
     data: Cow<'d, [u8]>,
-    /// None in 12 and 1A.
+    /// None in 12, 92 and 1A.
     pub data_area: Option<DataArea<'d>>,
 }
 
@@ -182,6 +249,7 @@ pub enum Done<'d> {
     Read(Arriving<'d>),
 }
 
+#[derive(Clone)]
 pub struct Drive<'a> {
     pack: &'a Pack<'a>,
     faults: &'a FaultList,
@@ -195,6 +263,8 @@ pub struct Drive<'a> {
     just_passed: bool,
     /// By searches, since the last control, read or equal search.
     index_passes: u8,
+    /// Made by the last command, to tracks of the image.
+    steps: usize,
     mask: Option<u8>,
 }
 
@@ -213,6 +283,7 @@ impl<'a> Drive<'a> {
             place: None,
             just_passed: false,
             index_passes: 0,
+            steps: 0,
             mask: None,
         }
     }
@@ -222,6 +293,21 @@ impl<'a> Drive<'a> {
         self.mask
     }
 
+    pub fn track(&self) -> TrackAddress {
+        self.track
+    }
+
+    /// The record whose count area was just passed.
+    pub fn passed(&self) -> Option<&'a Record<'a>> {
+        let place = self.place.filter(|_| self.just_passed)?;
+        self.records?.get(place)
+    }
+
+    /// Steps that the last command made, to tracks of the image.
+    pub fn steps(&self) -> usize {
+        self.steps
+    }
+
     /// Carries out a command. The argument is as long as the CCW's count, and empty in a read.
     pub fn execute(
         &mut self,
@@ -229,16 +315,65 @@ impl<'a> Drive<'a> {
         argument: &[u8],
         chained_data: bool,
     ) -> Result<Done<'a>, UnitCheck> {
+        self.steps = 0;
         check_form(command, argument, chained_data).map_err(UnitCheck::Reject)?;
-        match command {
+        let form = single_track(command);
+        if is_multitrack(command) {
+            self.step_on(form)?;
+        }
+        match form {
             SEARCH_ID_EQUAL => self.search(argument).map(|equal| Done::Search { equal }),
             READ_HOME_ADDRESS => self.read_home_address().map(Done::Read),
             READ_COUNT => self.read_count().map(Done::Read),
-            READ_DATA | READ_KEY_DATA | READ_COUNT_KEY_DATA => {
-                self.read_data(command).map(Done::Read)
-            }
-            _ => self.control(command, argument).map(|()| Done::Control),
+            READ_DATA | READ_KEY_DATA | READ_COUNT_KEY_DATA => self.read_data(form).map(Done::Read),
+            _ => self.control(form, argument).map(|()| Done::Control),
         }
+    }
+
+    /// "Where the single-track form would pass the index, these step to the next head": a read until
+    /// a record other than R0 is ahead, a search once, since R0 is on every track.
+    fn step_on(&mut self, form: u8) -> Result<(), UnitCheck> {
+        self.records()?;
+        while self.passes_index(form) {
+            self.step()?;
+        }
+        Ok(())
+    }
+
+    /// Whether a single-track search or read would pass the index. Leaving it is no pass.
+    fn passes_index(&self, form: u8) -> bool {
+        let ahead = match form {
+            SEARCH_ID_EQUAL => self.place.map_or(0, |place| place + 1),
+            _ if self.takes_passed(form) => return false,
+            _ => self.behind(),
+        };
+        self.records.is_some_and(|records| ahead >= records.len())
+    }
+
+    /// To the index of the next head. "Past head 18 they end with End of Cylinder (1.2) under any
+    /// mask; before it, mask bits 3 and 4 at 11 make the step File Protected".
+    fn step(&mut self) -> Result<(), UnitCheck> {
+        if self.track.head == LAST_HEAD {
+            return Err(UnitCheck::EndOfCylinder);
+        }
+        if self.mask.unwrap_or(0) & MASK_SEEK_INHIBITED == MASK_SEEK_INHIBITED {
+            return Err(UnitCheck::FileProtected(ProtectedRule::Step));
+        }
+        self.to_track(TrackAddress {
+            head: self.track.head + 1,
+            ..self.track
+        });
+        self.to_index();
+        if self.records.is_none() {
+            return Err(UnitCheck::NoRecordFound(NotFoundRule::NextHeadNotInImage));
+        }
+        self.steps += 1;
+        Ok(())
+    }
+
+    fn to_track(&mut self, track: TrackAddress) {
+        self.track = track;
+        self.records = self.pack.track(track);
     }
 
     fn control(&mut self, command: u8, argument: &[u8]) -> Result<(), UnitCheck> {
@@ -264,10 +399,9 @@ impl<'a> Drive<'a> {
             return Err(UnitCheck::Reject(RejectRule::SeekNotZero));
         }
         if self.mask.unwrap_or(0) & MASK_SEEK_INHIBITED != 0 {
-            return Err(UnitCheck::FileProtected);
+            return Err(UnitCheck::FileProtected(ProtectedRule::Seek));
         }
-        self.track = track;
-        self.records = self.pack.track(track);
+        self.to_track(track);
         Ok(())
     }
 
@@ -287,11 +421,11 @@ impl<'a> Drive<'a> {
         let records = self.records()?;
         let mut place = self.place.map_or(0, |place| place + 1);
         if place == records.len() {
-            place = 0;
-            self.index_passes += 1;
-            if self.index_passes == 2 {
+            if self.index_passes == 1 {
                 return Err(UnitCheck::NoRecordFound(NotFoundRule::IndexPassedTwice));
             }
+            place = 0;
+            self.index_passes += 1;
         }
         let equal = records[place].count_area.starts_with(id);
         if equal {
@@ -321,19 +455,22 @@ impl<'a> Drive<'a> {
         })
     }
 
-    fn read_data(&mut self, command: u8) -> Result<Arriving<'a>, UnitCheck> {
+    /// Whether a 06 or 0E takes the record whose count area was just passed.
+    fn takes_passed(&self, form: u8) -> bool {
+        self.just_passed && [READ_DATA, READ_KEY_DATA].contains(&form)
+    }
+
+    fn read_data(&mut self, form: u8) -> Result<Arriving<'a>, UnitCheck> {
         let (place, record) = match self.place {
-            Some(place) if self.just_passed && command != READ_COUNT_KEY_DATA => {
-                (place, &self.records()?[place])
-            }
+            Some(place) if self.takes_passed(form) => (place, &self.records()?[place]),
             _ => self.next_record()?,
         };
         self.read_at(place);
         let mut arriving = Arriving::nothing();
-        if command == READ_COUNT_KEY_DATA {
+        if form == READ_COUNT_KEY_DATA {
             arriving.front = Cow::Borrowed(record.count_area);
         }
-        if command != READ_DATA {
+        if form != READ_DATA {
             arriving.key = record.key;
         }
         let fault = self.faults.of(self.track, record.number());
@@ -352,12 +489,17 @@ impl<'a> Drive<'a> {
     /// The next record other than R0 and its place, round the track if need be.
     fn next_record(&self) -> Result<(usize, &'a Record<'a>), UnitCheck> {
         let records = self.records()?;
-        let behind = self.place.map_or(1, |place| place + 1);
+        let behind = self.behind();
         let place = if behind < records.len() { behind } else { 1 };
         let record = records.get(place);
         record
             .map(|record| (place, record))
             .ok_or(UnitCheck::NoRecordFound(NotFoundRule::R0Alone))
+    }
+
+    /// The place behind the drive's, R0's left out.
+    fn behind(&self) -> usize {
+        self.place.map_or(1, |place| place + 1)
     }
 
     fn records(&self) -> Result<&'a [Record<'a>], UnitCheck> {
@@ -381,7 +523,7 @@ impl<'a> Drive<'a> {
 
 /// What is rejected whatever the argument says.
 fn check_form(command: u8, argument: &[u8], chained_data: bool) -> Result<(), RejectRule> {
-    let right_count = match command {
+    let right_count = match single_track(command) {
         NO_OPERATION => argument.len(),
         SEEK => 6,
         SET_FILE_MASK | SET_SECTOR => 1,
@@ -401,6 +543,9 @@ fn check_form(command: u8, argument: &[u8], chained_data: bool) -> Result<(), Re
     }
     Ok(())
 }
+
+#[cfg(test)]
+mod multitrack_tests;
 
 #[cfg(test)]
 mod tests {
@@ -571,11 +716,24 @@ mod tests {
     fn each_reject() {
         for (command, argument, chained_data, rule) in [
             (0x00, &[][..], false, RejectRule::OtherCommand),
-            (0x86, &[], false, RejectRule::OtherCommand),
+            (0x9A, &[], false, RejectRule::OtherCommand),
+            (0x87, &[0; 6], false, RejectRule::OtherCommand),
             (SEEK, &[0; 5], false, RejectRule::WrongCount),
             (SET_FILE_MASK, &[0; 2], false, RejectRule::WrongCount),
             (SET_SECTOR, &[0; 2], false, RejectRule::WrongCount),
             (SEARCH_ID_EQUAL, &[0; 6], false, RejectRule::WrongCount),
+            (
+                SEARCH_ID_EQUAL_MULTITRACK,
+                &[0; 4],
+                false,
+                RejectRule::WrongCount,
+            ),
+            (
+                SEARCH_ID_EQUAL_MULTITRACK,
+                &[0; 5],
+                true,
+                RejectRule::ChainedData,
+            ),
             (NO_OPERATION, &[], true, RejectRule::ChainedData),
             (SEARCH_ID_EQUAL, &[0; 5], true, RejectRule::ChainedData),
             (SET_FILE_MASK, &[0x02], false, RejectRule::MaskBits),
@@ -603,7 +761,7 @@ mod tests {
             assert_eq!(drive.mask(), Some(0x10));
             let second = Some(UnitCheck::Reject(RejectRule::SecondMask));
             assert_eq!(control(&mut drive, SET_FILE_MASK, &[0x10]), second);
-            let protected = Some(UnitCheck::FileProtected);
+            let protected = Some(UnitCheck::FileProtected(ProtectedRule::Seek));
             assert_eq!(control(&mut drive, SEEK, &[0; 6]), protected);
             let rejected = Some(UnitCheck::Reject(RejectRule::SeekNotZero));
             assert_eq!(control(&mut drive, SEEK, &[1, 0, 0, 0, 0, 0]), rejected);
@@ -614,8 +772,9 @@ mod tests {
     fn sense_of_the_other_unit_checks() {
         for (check, byte, value) in [
             (UnitCheck::Reject(RejectRule::Sector), 0, 0x80),
+            (UnitCheck::EndOfCylinder, 1, 0x20),
             (UnitCheck::NoRecordFound(NotFoundRule::R0Alone), 1, 0x08),
-            (UnitCheck::FileProtected, 1, 0x04),
+            (UnitCheck::FileProtected(ProtectedRule::Step), 1, 0x04),
         ] {
             let mut expected = [0; 24];
             expected[byte] = value;

@@ -72,6 +72,19 @@ pub fn track_of(records: u8, data_length: usize) -> Vec<u8> {
     image
 }
 
+/// Heads 0 to 18 of cylinder 0, each with R0 and so many records of one length.
+pub fn cylinder_of(records: impl Fn(u16) -> u8, data_length: usize) -> Vec<u8> {
+    let mut image = Vec::new();
+    for head in 0..=LAST_HEAD {
+        let tracks = TracksOf {
+            records: records(head),
+            data_length,
+        };
+        put_track(&mut image, track_at(head.into()), tracks);
+    }
+    image
+}
+
 pub fn put_track(image: &mut Vec<u8>, track: TrackAddress, tracks: TracksOf) {
     put_home_address(image, track);
     put_data(image, track, 0, R0_DATA);

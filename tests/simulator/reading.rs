@@ -6,7 +6,7 @@ use super::drive::Drive;
 use super::pack::TrackAddress;
 use super::recovery::{self, recover, Answer, Recovered, RestartAction};
 use super::report::Report;
-use super::run::{self, run_drive, RESTARTED_LIMIT};
+use super::run::{self, run_drive, Watch, RESTARTED_LIMIT};
 use super::{check_extent, check_faults, encode, Refusal};
 
 /// The areas that a reading only reads.
@@ -91,9 +91,20 @@ pub struct Reading {
 /// Questions 1, 2, 3 and 5, then the reading. A refusal leaves all areas.
 pub fn read(
     lent: Lent,
+    areas: Areas,
+    limit: usize,
+    last_cylinder: u16,
+) -> Result<Reading, Refusal> {
+    read_watched(lent, areas, limit, last_cylinder, &mut ())
+}
+
+/// The same, and `watch` is told of all its runs.
+pub fn read_watched(
+    lent: Lent,
     mut areas: Areas,
     limit: usize,
     last_cylinder: u16,
+    watch: &mut impl Watch,
 ) -> Result<Reading, Refusal> {
     lent.run.check(areas.storage.len(), limit)?;
     check_restart(areas.program.len(), areas.restart_arguments.len())?;
@@ -102,7 +113,7 @@ pub fn read(
     check_extent(lent.extent, last_cylinder)?;
     let drive = || Drive::new(&pack, &faults, last_cylinder);
     let chain = lent.run.program(None);
-    let mut outcome = run_drive(drive(), chain, areas.storage, limit, &mut ());
+    let mut outcome = run_drive(drive(), chain, areas.storage, limit, watch);
     let mut recoveries = Vec::new();
     let (end, csw) = loop {
         let Some(cut) = Report::of_cut(&outcome) else {
@@ -127,7 +138,7 @@ pub fn read(
             program: areas.program,
             arguments: areas.restart_arguments,
         }));
-        outcome = run_drive(drive(), restart, areas.storage, RESTARTED_LIMIT, &mut ());
+        outcome = run_drive(drive(), restart, areas.storage, RESTARTED_LIMIT, watch);
     };
     Ok(Reading {
         end,

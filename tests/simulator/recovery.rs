@@ -8,7 +8,7 @@ use super::extent::Extent;
 use super::interrupted::{next_command, next_cylinder, next_track, Interrupted};
 use super::pack::TrackAddress;
 use super::report::Report;
-use super::restart::{self, begins_with_count, BuiltRestart};
+use super::restart::{self, read_count_before, BuiltRestart};
 use super::table::{self, Action};
 use super::Refusal;
 
@@ -182,10 +182,9 @@ impl Case<'_> {
     }
 
     fn behind_the_record(&self, next: &Ccw) -> Decision {
-        let action = if begins_with_count(next) {
-            RestartAction::Five
-        } else {
-            RestartAction::FiveA
+        let action = match read_count_before(next) {
+            Some(_) => RestartAction::FiveA,
+            None => RestartAction::Five,
         };
         let &[c0, c1, h0, h1, number] = &self.report.sense[8..13] else {
             unreachable!("five bytes");

@@ -4,7 +4,8 @@ use super::channel::{
     Ccw, CCW_LENGTH, FLAG_CHAIN_COMMAND, FLAG_SKIP, RESTART_ARGUMENTS, RESTART_PROGRAM,
 };
 use super::drive::{
-    READ_COUNT, READ_HOME_ADDRESS, SEARCH_ID_EQUAL, SEEK, SET_FILE_MASK, SET_SECTOR,
+    READ_COUNT, READ_COUNT_MULTITRACK, READ_DATA_MULTITRACK, READ_HOME_ADDRESS,
+    READ_KEY_DATA_MULTITRACK, SEARCH_ID_EQUAL, SEEK, SET_FILE_MASK, SET_SECTOR,
 };
 use super::encode;
 use super::pack::TrackAddress;
@@ -21,9 +22,14 @@ pub struct BuiltRestart {
     pub arguments: [u8; 16],
 }
 
-/// Bit 3 on: the command begins with a count area by itself.
-pub fn begins_with_count(next: &Ccw) -> bool {
-    next.command & 0x10 != 0
+/// The read count of 5A: "In 5A the read count takes code 92 when the next command is 86 or 8E."
+/// None in 5, where bit 3 is on: the command begins with a count area by itself.
+pub fn read_count_before(next: &Ccw) -> Option<u8> {
+    match next.command {
+        READ_DATA_MULTITRACK | READ_KEY_DATA_MULTITRACK => Some(READ_COUNT_MULTITRACK),
+        command if command & 0x10 == 0 => Some(READ_COUNT),
+        _ => None,
+    }
 }
 
 /// Actions 5 and 5A: behind the count area of the record with this ID, then to the next CCW.
@@ -33,8 +39,8 @@ pub fn behind_record(id: [u8; 5], mask: Option<u8>, sector: u8, next: &Ccw) -> B
     let search = writer.here();
     writer.put_control(SEARCH_ID_EQUAL, ID, 5);
     writer.put_tic(search);
-    if !begins_with_count(next) {
-        writer.put_skipped_read(READ_COUNT, 8);
+    if let Some(read_count) = read_count_before(next) {
+        writer.put_skipped_read(read_count, 8);
     }
     writer.put_tic(next.at);
     writer.built
@@ -165,8 +171,13 @@ mod tests {
     fn bit_3_decides_between_5_and_5a() {
         for command in 0..=255 {
             let built = behind_record(SOUGHT, None, 0, &command_at(8, command));
-            let has_read_count = built.program[0x20] == READ_COUNT;
-            assert_eq!(has_read_count, command & 0x10 == 0);
+            // In 5 the last TIC stands there.
+            let expected = match command {
+                0x86 | 0x8E => 0x92,
+                _ if command & 0x10 == 0 => 0x12,
+                _ => 0x08,
+            };
+            assert_eq!(built.program[0x20], expected);
         }
     }
 

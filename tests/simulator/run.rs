@@ -6,8 +6,7 @@ use super::channel::{
     CHANNEL_INCORRECT_LENGTH, FLAG_CHAIN_COMMAND, FLAG_CHAIN_DATA, UNIT_CHECK, UNIT_EXCEPTION,
 };
 use super::drive::{
-    data_check_sense, Arriving, Done, Drive, NotFoundRule, Operand, RejectRule, Sense, UnitCheck,
-    NO_OPERATION,
+    data_check_sense, Arriving, Done, Drive, Operand, Sense, UnitCheck, NO_OPERATION,
 };
 use super::pack::TrackAddress;
 use super::{check_faults, Refusal};
@@ -61,14 +60,6 @@ pub enum End {
 
 impl End {
     pub fn all() -> Vec<End> {
-        let unit_checks = (RejectRule::ALL.iter().copied().map(UnitCheck::Reject))
-            .chain(
-                NotFoundRule::ALL
-                    .iter()
-                    .copied()
-                    .map(UnitCheck::NoRecordFound),
-            )
-            .chain([UnitCheck::FileProtected]);
         let alone = [
             End::Chain,
             End::IncorrectLength,
@@ -78,12 +69,12 @@ impl End {
         ];
         (alone.into_iter())
             .chain(ProgramCheck::ALL.iter().copied().map(End::ProgramCheck))
-            .chain(unit_checks.map(End::UnitCheck))
+            .chain(UnitCheck::all().into_iter().map(End::UnitCheck))
             .collect()
     }
 }
 
-/// A data area that a 06, 0E or 1E took.
+/// A data area that a 06, 0E or 1E took, or the multitrack form of one.
 #[derive(Clone, Copy, Debug, PartialEq, Eq)]
 pub struct TakenArea {
     pub track: TrackAddress,
@@ -113,6 +104,9 @@ pub struct Outcome {
 pub trait Watch {
     /// The drive has seen a command; the argument is that of a control or search command.
     fn command(&mut self, _ccw: &Ccw, _argument: &[u8], _done: &Result<Done, UnitCheck>) {}
+
+    /// That command made so many steps to the next head, even if it was not done in the end.
+    fn steps(&mut self, _steps: usize) {}
 
     /// A CCW has taken bytes of the read that the drive has just seen.
     fn stretch(&mut self, _stretch: &Stretch) {}
@@ -263,6 +257,7 @@ impl<W: Watch> Machine<'_, W> {
         let chained_data = ccw.has(FLAG_CHAIN_DATA);
         let done = self.drive.execute(ccw.command, argument, chained_data);
         self.watch.command(&ccw, argument, &done);
+        self.watch.steps(self.drive.steps());
         match done {
             Ok(Done::Control) => {
                 let count_left = match ccw.command {

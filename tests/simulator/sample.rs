@@ -1,7 +1,10 @@
 //! Document 01's sample: a chain that reads two records, one track with R0, R1 and R2, one fault,
-//! an extent of that track only.
+//! an extent of that track only. And a sample over two heads.
 
+use super::encode::{ccw, put_fault, put_home_address, put_record};
+use super::faults::Fault;
 use super::held::{HeldReading, HeldRun};
+use super::large::track_at;
 
 pub const CHAIN: [u8; 40] = [
     0x07, 0x00, 0x00, 0x00, 0x40, 0x00, 0x00, 0x06, // seek
@@ -49,4 +52,34 @@ pub fn run() -> HeldRun {
 /// Its reading, with the same.
 pub fn reading() -> HeldReading {
     HeldReading::of_run(run(), EXTENT.to_vec())
+}
+
+/// The same over heads 17 and 18, R1 on each of them faulted: the second read is an 86, and End of
+/// Cylinder ends an 86 behind it.
+pub fn over_two_heads() -> HeldReading {
+    let mut ccws = CHAIN[..0x20].to_vec();
+    ccws.extend(ccw(0x86, 4, 0x40, 4));
+    ccws.extend(ccw(0x86, 8, 0, 4));
+    let (mut image, mut faults) = (Vec::new(), Vec::new());
+    for (head, data) in [(17, b"\xC1\xC2\xC3\xC4"), (18, b"\xD1\xD2\xD3\xD4")] {
+        let track = track_at(head);
+        put_home_address(&mut image, track);
+        put_record(&mut image, track, 0, &[], &[]);
+        put_record(&mut image, track, 1, &[], data);
+        let fault = Fault {
+            track,
+            number: 1,
+            error_displacement: 3,
+            pattern: [0, 1, 0],
+        };
+        put_fault(&mut faults, fault);
+    }
+    HeldReading {
+        chain: ccws,
+        arguments: vec![0, 0, 0, 0, 0, 17, 0, 0, 0, 17, 1],
+        image,
+        faults,
+        extent: vec![0, 0, 0, 17, 0, 0, 0, 18],
+        ..reading()
+    }
 }

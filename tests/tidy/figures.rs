@@ -1,12 +1,14 @@
-//! Figures stand in one place. Measured times are told by docs/FIGURES.md and the front page alone, and
-//! the large numbers of the tables of docs/FIGURES.md by no other page. Its table of crates has each
-//! crate of crates.txt in order, with what docs/lines.sh counts, and the sums.
+//! Figures stand in one place. Measured times are told by docs/FIGURES.md, the front page and the notes of
+//! docs/requests alone, and the large numbers of the tables of docs/FIGURES.md by no other page. Its table
+//! of crates has each crate of crates.txt in order, with what docs/lines.sh counts, and the sums.
 
 use crate::files::{File, Place, Repository};
 use std::collections::BTreeSet;
 
 const FIGURES: &str = "docs/FIGURES.md";
 const TIMED: [&str; 2] = ["README.md", FIGURES];
+/// A note tells the time of the check before and after its request.
+const NOTES: &str = "docs/requests/";
 const HEADER: [&str; 6] = ["crate", "seconds", "code", "definitions", "proof", "edits"];
 const SUMS: &str = "all";
 
@@ -41,7 +43,7 @@ pub fn check(repository: &Repository) -> Vec<Place> {
     let large = figures.map_or(BTreeSet::new(), |file| large(&file.text));
     for file in repository.pages() {
         let words = words(&file.text);
-        if !TIMED.contains(&file.path.as_str()) {
+        if !TIMED.contains(&file.path.as_str()) && !file.path.starts_with(NOTES) {
             let what = |time| format!("a time, which belongs in {FIGURES}: {time}");
             let times = times(&words).into_iter();
             places.extend(times.map(|(line, time)| file.place(line, what(time))));
@@ -183,6 +185,7 @@ all       84           56  12309      4
             (FIGURES, figures),
             ("docs/A.md", page),
             ("README.md", "12 s"),
+            ("docs/requests/01.md", "12 s"),
         ];
         let mut repository = Repository::of(&files);
         repository.lines = COUNTED.to_string();

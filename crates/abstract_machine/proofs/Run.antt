@@ -1,4 +1,4 @@
--- Equations of `run` and `notes`.
+-- Equations of `run`, `notes` and `endsBehind`.
 --   run-goes               a run whose first command goes on
 --   run-ends               whose first command ends it
 --   run-cuts               whose first command is cut
@@ -10,14 +10,19 @@
 --   notes-goes-some, notes-goes-none, notes-ends-some, notes-ends-none, notes-cuts-some, notes-cuts-none
 --                          what is noted, by the first command and its note
 --   notes-few              at most one note for each command
+--   behind-goes, behind-ends   `endsBehind` by the first command
+--   LastTwo, last-two      the last two commands of a run that ends so
+--   behind-unmarked        it does not ask what came before, if the first command is not marked as last
 use Prim.Native.Nat.{ℕ, zero, suc, _-_, _≤_, _<_}
 use mathlib.Core.Path.{_≡_, refl, sym, _∙_}
+use mathlib.Core.Bool.{Bool, true, false, _&&_}
 use mathlib.Core.Option.{Option, none, some}
 use mathlib.Core.List.{[], _∷_}
 use lib.ListN.{length}
 use native.Mathlib.Omega.{arith}
 use Rattle.base.specs.Choice.{opt}
-use Rattle.abstract_machine.specs.Machine.{Stepped, goes, ends, cuts, ended, cut, limit, run, notes}
+use Rattle.base.proofs.Choice.{and-left, and-right}
+use Rattle.abstract_machine.specs.Machine.{Stepped, goes, ends, cuts, ended, cut, limit, run, notes, endsBehind}
 
 module _ {S E C L : Type 0} (step : S → Stepped S E C) (shows : S → L) where
   pub run-goes : (n : ℕ) (s t : S) → step s ≡ goes t → run step shows (suc n) s ≡ run step shows n t
@@ -102,3 +107,67 @@ module _ {S E C : Type 0} (step : S → Stepped S E C) {T : Type 0} (note : S �
       by few (ends e) q none r = rw (notes-ends-none n s e q r) (omega arith)
       by few (cuts c) q (some x) r = rw (notes-cuts-some n s c x q r) (omega arith)
       by few (cuts c) q none r = rw (notes-cuts-none n s c q r) (omega arith)
+
+-- ---- the last two commands of a run
+
+module _ {S E C : Type 0} (step : S → Stepped S E C) (before last : S → Bool) where
+  pub behind-goes : (b : Bool) (n : ℕ) (s t : S) → step s ≡ goes t → endsBehind step before last b (suc n) s ≡ endsBehind step before last (before s) n t
+  unfolding endsBehind
+  behind-goes b n s t h = rw (h, endsBehind)
+
+  pub behind-ends : (b : Bool) (n : ℕ) (s : S) (e : E) → step s ≡ ends e → endsBehind step before last b (suc n) s ≡ (b && last s)
+  unfolding endsBehind
+  behind-ends b n s e h = rw (h, endsBehind)
+
+  pub behind-unmarked : (b : Bool) (n : ℕ) (s : S) → last s ≡ false → endsBehind step before last b n s ≡ endsBehind step before last false n s
+  unfolding endsBehind
+  behind-unmarked b zero s h = refl
+  behind-unmarked b (suc n) s h = by (step s) refl
+    where
+      none-marked : (c : Bool) → (c && false) ≡ false
+      none-marked true = refl
+      none-marked false = refl
+
+      by : (o : Stepped S E C) → step s ≡ o → endsBehind step before last b (suc n) s ≡ endsBehind step before last false (suc n) s
+      by (goes t) q = behind-goes b n s t q ∙ sym (behind-goes false n s t q)
+      by (ends e) q = behind-ends b n s e q ∙ rw h (none-marked b) ∙ sym (behind-ends false n s e q)
+      by (cuts c) q = rw (q, endsBehind)
+
+  -- The last two commands of a run that ends with e, with their marks.
+  pub record LastTwo (e : E) : Type 0 where
+    pub first : S
+    pub second : S
+    pub goes-on : step first ≡ goes second
+    pub ends-it : step second ≡ ends e
+    pub marked-first : before first ≡ true
+    pub marked-second : last second ≡ true
+
+  -- where the run is at its last command, or comes to it
+  data Closing (b : Bool) (s : S) (e : E) : Type 0 where
+    here : b ≡ true → last s ≡ true → step s ≡ ends e → Closing b s e
+    later : LastTwo e → Closing b s e
+
+  module _ {L : Type 0} (shows : S → L) where
+    closing : (n : ℕ) (b : Bool) (s : S) (e : E) → run step shows n s ≡ ended e → endsBehind step before last b n s ≡ true → Closing b s e
+    closing zero b s e h k = let z : _≡_ {A = ℕ} 0 1 = cc (run-none step shows zero s (omega arith)) in absurd (omega arith)
+    closing (suc n) b s e h k = by (closing n) (step s) refl
+      where
+        by : ((b : Bool) (s : S) (e : E) → run step shows n s ≡ ended e → endsBehind step before last b n s ≡ true → Closing b s e)
+            → (o : Stepped S E C) → step s ≡ o → Closing b s e
+        by rest (goes t) q = next (rest (before s) t e (sym (run-goes step shows n s t q) ∙ h) (sym (behind-goes b n s t q) ∙ k))
+          where
+            next : Closing (before s) t e → Closing b s e
+            next (here m l is) = later (record { first = s; second = t; goes-on = q; ends-it = is; marked-first = m; marked-second = l })
+            next (later x) = later x
+        by rest (ends x) q =
+            let same : x ≡ e = cc (run-ends step shows n s x q) in
+            let marks = sym (behind-ends b n s x q) ∙ k in
+            here (and-left b (last s) marks) (and-right b (last s) marks) (rw same at q)
+        by rest (cuts c) q = let z : _≡_ {A = ℕ} 0 1 = cc (run-cuts step shows n s c q) in absurd (omega arith)
+
+    pub last-two : (n : ℕ) (s : S) (e : E) → run step shows n s ≡ ended e → endsBehind step before last false n s ≡ true → LastTwo e
+    last-two n s e h k = by (closing n false s e h k)
+      where
+        by : Closing false s e → LastTwo e
+        by (here m l is) = let z : _≡_ {A = ℕ} 0 1 = cc in absurd (omega arith)
+        by (later x) = x

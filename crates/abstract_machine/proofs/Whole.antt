@@ -11,19 +11,24 @@
 --   Each                     a property of every element
 --   Reads                    a reading that ends as a run does, with the recoveries that are asked for
 --   Mended, Closed           what recovery makes of a cut inside a chain, and of one at its end
---   ReadsLike                a reading from s ends like the faultless run from s, with one recovery for each faulted data area
+--   Strayed                  what it makes of a cut where the restarted run ends before it is back in the chain
+--   GoesOn                   which of the two it is, where the chain goes on
+--   endOf                    how the reading ends: as the faultless run, or as such a restarted run
+--   ReadsLike                a reading from s ends so, with one recovery for each faulted data area
 --   whole                    it does, if cuts are mended and closed
 use Prim.Native.Nat.{ℕ, zero, suc, _+_, _-_, _≤_, _<_}
 use native.Mathlib.Omega.{arith}
 use mathlib.Core.Path.{_≡_, refl, ap, sym, _∙_}
+use mathlib.Core.Bool.{Bool, true, false}
 use mathlib.Core.Option.{Option, none, some}
 use mathlib.Core.List.{List, [], _∷_, _++_, map, append-nil}
 use lib.ListN.{length}
 use lib.Seq.{append-snoc}
-use Rattle.abstract_machine.specs.Machine.{Stepped, goes, ends, cuts, Result, ended, cut, limit, run, notes, Along}
+use Rattle.base.specs.Choice.{pick, opt}
+use Rattle.abstract_machine.specs.Machine.{Stepped, goes, ends, cuts, Result, ended, cut, limit, run, notes, Along, endsBehind}
 use Rattle.abstract_machine.specs.Reading as Reading
 use Rattle.abstract_machine.specs.Reading.{CutAnswer, restart, finish, stop, Log, reading}
-use Rattle.abstract_machine.proofs.Run.{run-goes, run-ends, run-cuts, notes-goes-some, notes-goes-none, notes-ends-some, notes-ends-none}
+use Rattle.abstract_machine.proofs.Run.{run-goes, run-ends, run-cuts, notes-goes-some, notes-goes-none, notes-ends-some, notes-ends-none, behind-goes, behind-ends, behind-unmarked}
 
 -- ---- along a run
 
@@ -162,6 +167,17 @@ module _ {T R S L E F C X H : Type 0} (faulty : S → Stepped S E C) (shows : S 
     pub noted : name entry ≡ h
     pub done : recover report ≡ finish entry (close e)
 
+  -- A cut of a chain that goes on: the restarted run ends with x before it is back in the chain.
+  pub record Strayed (h : H) (s : S) (x : E) : Type 0 where
+    pub report : C
+    pub entry : T
+    pub first : R
+    pub is-cut : faulty s ≡ cuts report
+    pub built : recover report ≡ restart entry first
+    pub noted : name entry ≡ h
+    pub inside : Inside first
+    pub comes : start first ≡ ended x
+
   abbrev Comes : ℕ → Log T R → Result L E C → E → List H → Type 0
   Comes = Reads start recover close name Inside
 
@@ -170,6 +186,12 @@ module _ {T R S L E F C X H : Type 0} (faulty : S → Stepped S E C) (shows : S 
     reads-closed w =
         rw (run-cuts faulty shows b s (w .report) (w .is-cut))
         (reads-finish start recover close name Inside k g (w .report) (w .entry) h e (w .done) (w .noted))
+
+    reads-strayed : Strayed h s e → Comes (suc k) g (run faulty shows (suc b) s) e (h ∷ [])
+    reads-strayed w =
+        rw (run-cuts faulty shows b s (w .report) (w .is-cut))
+        (reads-restart start recover close name Inside k g (w .report) (w .entry) h e (w .first) [] (w .built) (w .noted) (w .inside)
+        (rw (w .comes) (reads-ended start recover close name Inside k _ e)))
 
     -- the run from t has a command left
     reads-mended : (t : S) (hs : List H) → Mended h s t → j < m → ((n : ℕ) (g : Log T R) → m ≤ j + suc n → Comes k g (run faulty shows (suc n) t) e hs)
@@ -180,45 +202,93 @@ module _ {T R S L E F C X H : Type 0} (faulty : S → Stepped S E C) (shows : S 
         (reads-restart start recover close name Inside k g (w .report) (w .entry) h e (w .first) hs (w .built) (w .noted) (w .inside)
         (rw (w .reaches n (omega (arith, w .few))) (rest n _ (omega (arith, w .few)))))
 
-  -- `flag` is the faulted data area that the next command takes.
-  module _ (clean : S → Stepped S E C) (flag : S → Option H) (P : S → Type 0) (Good : E → Type 0)
-      (plain : (s : S) → P s → flag s ≡ none → faulty s ≡ clean s)
-      (mends : (h : H) (s t : S) (n : ℕ) (e : E) → P s → flag s ≡ some h → clean s ≡ goes t → run clean shows n t ≡ ended e → Good e → Mended h s t)
-      (closes : (h : H) (s : S) (e : E) → P s → flag s ≡ some h → clean s ≡ ends e → Good e → Closed h s e) where
-    -- If the faultless run of n commands from s ends with e, so does the reading whose first run has b commands, with k recoveries allowed.
-    abbrev pub ReadsLike : ℕ → Type 0
-    ReadsLike n =
-        (s : S) (e : E) → run clean shows n s ≡ ended e → Good e → Along clean P n s → n + j ≤ m
-        → (b k : ℕ) (g : Log T R) → n ≤ b → length (notes clean flag n s) ≤ k
-        → Reads start recover close name Inside k g (run faulty shows b s) e (notes clean flag n s)
+  -- `flag` is the faulted data area that the next command takes, and `before` says whether there is one. The command that comes next in the state t
+  -- is marked by `last` if it ends the chain and a restart of a cut right before it ends already, with `instead` of its end.
+  module _ (clean : S → Stepped S E C) (flag : S → Option H) (before last : S → Bool) (instead : E → E) where
+    -- a cut in the state s of a chain that goes on at t, and ends with e
+    pub data GoesOn (h : H) (s t : S) (e : E) : Bool → Type 0 where
+      mended : Mended h s t → GoesOn h s t e false
+      strayed : clean t ≡ ends e → flag t ≡ none → Strayed h s (instead e) → GoesOn h s t e true
 
-    pub whole : (n : ℕ) → ReadsLike n
-    unfolding run
-    whole zero s e h good along room b k g far many = let z : _≡_ {A = ℕ} 0 1 = cc in absurd (omega arith)
-    whole (suc n) s e h good along room zero k g far many = absurd (omega arith)
-    whole (suc n) s e h good along room (suc b) k g far many = by (whole n) (clean s) refl (flag s) refl k refl
-      where
-        here : P s
-        here = along-here clean P n s along
+    -- the end of the reading from s, where the faultless run of n commands ends with e
+    abbrev pub endOf : ℕ → S → E → E
+    endOf n s e = pick (endsBehind clean before last false n s) (instead e) e
 
-        by : ReadsLike n → (o : Stepped S E C) → clean s ≡ o → (f : Option H) → flag s ≡ f → (k′ : ℕ) → k ≡ k′
-            → Comes k g (run faulty shows (suc b) s) e (notes clean flag (suc n) s)
-        by like (goes t) q none r k′ z =
-            let rest : run clean shows n t ≡ ended e = sym (run-goes clean shows n s t q) ∙ h in
-            rw (notes-goes-none clean flag n s t q r, run-goes faulty shows b s t (plain s here r ∙ q))
-            (like t e rest good (along-goes clean P n s t q along) (omega arith) b k g (omega arith) (omega (arith, ap length (notes-goes-none clean flag n s t q r))))
-        by like (goes t) q (some u) r zero z = absurd (omega (arith, ap length (notes-goes-some clean flag n s t u q r)))
-        by like (goes t) q (some u) r (suc k′) z =
-            let rest : run clean shows n t ≡ ended e = sym (run-goes clean shows n s t q) ∙ h in
-            let some-more : length (notes clean flag n t) ≤ k′ = omega (arith, ap length (notes-goes-some clean flag n s t u q r)) in
-            rw (z, notes-goes-some clean flag n s t u q r)
-            (reads-mended b k′ g u s e t (notes clean flag n t) (mends u s t n e here r q rest good) (omega arith)
-            (λ b′ g′ long. like t e rest good (along-goes clean P n s t q along) (omega arith) (suc b′) k′ g′ (omega arith) some-more))
-        by like (ends x) q none r k′ z =
-            let same : x ≡ e = cc (run-ends clean shows n s x q) in
-            rw (notes-ends-none clean flag n s x q r, run-ends faulty shows b s x (plain s here r ∙ q), same) (reads-ended start recover close name Inside k g e)
-        by like (ends x) q (some u) r zero z = absurd (omega (arith, ap length (notes-ends-some clean flag n s x u q r)))
-        by like (ends x) q (some u) r (suc k′) z =
-            let same : x ≡ e = cc (run-ends clean shows n s x q) in
-            rw (z, notes-ends-some clean flag n s x u q r) (reads-closed b k′ g u s e (closes u s e here r (rw same at q) good))
-        by like (cuts c) q f r k′ z = let y : _≡_ {A = ℕ} 0 1 = cc (run-cuts clean shows n s c q) in absurd (omega arith)
+    module _ (P : S → Type 0) (Good : E → Type 0)
+        (plain : (s : S) → P s → flag s ≡ none → faulty s ≡ clean s)
+        (marks : (s : S) → before s ≡ opt (flag s) false (λ h. true))
+        (mends : (h : H) (s t : S) (n : ℕ) (e : E) → P s → flag s ≡ some h → clean s ≡ goes t → run clean shows n t ≡ ended e → Good e → GoesOn h s t e (last t))
+        (closes : (h : H) (s : S) (e : E) → P s → flag s ≡ some h → clean s ≡ ends e → Good e → Closed h s e) where
+      -- If the faultless run of n commands from s ends with e, the reading whose first run has b commands, with k recoveries allowed, ends so.
+      abbrev pub ReadsLike : ℕ → Type 0
+      ReadsLike n =
+          (s : S) (e : E) → run clean shows n s ≡ ended e → Good e → Along clean P n s → n + j ≤ m
+          → (b k : ℕ) (g : Log T R) → n ≤ b → length (notes clean flag n s) ≤ k
+          → Reads start recover close name Inside k g (run faulty shows b s) (endOf n s e) (notes clean flag n s)
+
+      -- ---- the end by the first command
+
+      end-plain : (n : ℕ) (s t : S) (e : E) → clean s ≡ goes t → flag s ≡ none → endOf (suc n) s e ≡ endOf n t e
+      unfolding opt
+      end-plain n s t e q r = rw (behind-goes clean before last false n s t q, marks s, r)
+
+      end-mended : (h : H) (n : ℕ) (s t : S) (e : E) → clean s ≡ goes t → flag s ≡ some h → last t ≡ false → endOf (suc n) s e ≡ endOf n t e
+      unfolding opt
+      end-mended h n s t e q r l = rw (behind-goes clean before last false n s t q, marks s, r, behind-unmarked clean before last true n t l)
+
+      end-strayed : (h : H) (n : ℕ) (s t : S) (e : E) → clean s ≡ goes t → flag s ≡ some h → last t ≡ true → clean t ≡ ends e
+          → endOf (suc (suc n)) s e ≡ instead e
+      unfolding opt pick
+      end-strayed h n s t e q r l z = rw (behind-goes clean before last false (suc n) s t q, marks s, r, behind-ends clean before last true n t e z, l)
+
+      end-here : (n : ℕ) (s : S) (e : E) → clean s ≡ ends e → endOf (suc n) s e ≡ e
+      unfolding pick
+      end-here n s e q = rw (behind-ends clean before last false n s e q)
+
+      -- ---- a cut where the chain goes on
+
+      goes-on : (n : ℕ) → ReadsLike n → (h : H) (s t : S) (e : E) → P s → flag s ≡ some h → clean s ≡ goes t → run clean shows n t ≡ ended e → Good e → Along clean P n t
+          → suc n + j ≤ m → (b k : ℕ) (g : Log T R) → n ≤ b → length (notes clean flag n t) ≤ k
+          → Comes (suc k) g (run faulty shows (suc b) s) (endOf (suc n) s e) (h ∷ notes clean flag n t)
+      unfolding run
+      goes-on n like h s t e here r q rest good along room b k g far many = by n refl (last t) refl (mends h s t n e here r q rest good)
+        where
+          by : (n′ : ℕ) → n ≡ n′ → (l : Bool) → last t ≡ l → GoesOn h s t e l → Comes (suc k) g (run faulty shows (suc b) s) (endOf (suc n) s e) (h ∷ notes clean flag n t)
+          by n′ y false l (mended w) =
+              rw (end-mended h n s t e q r l)
+              (reads-mended b k g h s (endOf n t e) t (notes clean flag n t) w (omega arith)
+              (λ b′ g′ long. like t e rest good along (omega arith) (suc b′) k g′ (omega arith) many))
+          by zero y true l (strayed ends-there unflagged w) = let x : run clean shows zero t ≡ ended e = rw y at rest in let v : _≡_ {A = ℕ} 0 1 = cc in absurd (omega arith)
+          by (suc n′) y true l (strayed ends-there unflagged w) =
+              rw (y, notes-ends-none clean flag n′ t e ends-there unflagged, end-strayed h n′ s t e q r l ends-there) (reads-strayed b k g h s (instead e) w)
+
+      pub whole : (n : ℕ) → ReadsLike n
+      unfolding run
+      whole zero s e h good along room b k g far many = let z : _≡_ {A = ℕ} 0 1 = cc in absurd (omega arith)
+      whole (suc n) s e h good along room zero k g far many = absurd (omega arith)
+      whole (suc n) s e h good along room (suc b) k g far many = by (whole n) (clean s) refl (flag s) refl k refl
+        where
+          here : P s
+          here = along-here clean P n s along
+
+          by : ReadsLike n → (o : Stepped S E C) → clean s ≡ o → (f : Option H) → flag s ≡ f → (k′ : ℕ) → k ≡ k′
+              → Comes k g (run faulty shows (suc b) s) (endOf (suc n) s e) (notes clean flag (suc n) s)
+          by like (goes t) q none r k′ z =
+              let rest : run clean shows n t ≡ ended e = sym (run-goes clean shows n s t q) ∙ h in
+              rw (notes-goes-none clean flag n s t q r, run-goes faulty shows b s t (plain s here r ∙ q), end-plain n s t e q r)
+              (like t e rest good (along-goes clean P n s t q along) (omega arith) b k g (omega arith) (omega (arith, ap length (notes-goes-none clean flag n s t q r))))
+          by like (goes t) q (some u) r zero z = absurd (omega (arith, ap length (notes-goes-some clean flag n s t u q r)))
+          by like (goes t) q (some u) r (suc k′) z =
+              let rest : run clean shows n t ≡ ended e = sym (run-goes clean shows n s t q) ∙ h in
+              let some-more : length (notes clean flag n t) ≤ k′ = omega (arith, ap length (notes-goes-some clean flag n s t u q r)) in
+              rw (z, notes-goes-some clean flag n s t u q r)
+              (goes-on n like u s t e here r q rest good (along-goes clean P n s t q along) (omega arith) b k′ g (omega arith) some-more)
+          by like (ends x) q none r k′ z =
+              let same : x ≡ e = cc (run-ends clean shows n s x q) in
+              rw (notes-ends-none clean flag n s x q r, run-ends faulty shows b s x (plain s here r ∙ q), same, end-here n s e (rw same at q))
+              (reads-ended start recover close name Inside k g e)
+          by like (ends x) q (some u) r zero z = absurd (omega (arith, ap length (notes-ends-some clean flag n s x u q r)))
+          by like (ends x) q (some u) r (suc k′) z =
+              let same : x ≡ e = cc (run-ends clean shows n s x q) in
+              rw (z, notes-ends-some clean flag n s x u q r, end-here n s e (rw same at q)) (reads-closed b k′ g u s e (closes u s e here r (rw same at q) good))
+          by like (cuts c) q f r k′ z = let y : _≡_ {A = ℕ} 0 1 = cc (run-cuts clean shows n s c q) in absurd (omega arith)

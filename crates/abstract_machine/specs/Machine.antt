@@ -1,5 +1,6 @@
 -- Runs and whole readings over an abstract machine that knows nothing of disks: commands, cuts, restarts.
 use Prim.Native.Nat.{ℕ, zero, suc}
+use mathlib.Core.Bool.{Bool, false, _&&_}
 use mathlib.Core.Option.{Option}
 use mathlib.Core.List.{List, [], _∷_}
 use Rattle.base.specs.Choice.{opt}
@@ -40,3 +41,9 @@ module _ {S E C : Type 0} (step : S → Stepped S E C) where
     unfoldable pub Along : ℕ → S → Type 0
     Along zero s = Unit {0}
     Along (suc n) s = P s × elim (step s) as (λ o. Type 0) [ goes t ↦ Along n t | ends e ↦ Unit {0} | cuts c ↦ Unit {0} ]
+
+  -- whether a run ends by a command that `last` marks, right behind one that `before` marks; b says so of the command before the first
+  module _ (before last : S → Bool) where
+    unfoldable pub endsBehind : Bool → ℕ → S → Bool
+    endsBehind b zero s = false
+    endsBehind b (suc n) s = elim (step s) [ goes t ↦ endsBehind (before s) n t | ends e ↦ b && last s | cuts c ↦ false ]

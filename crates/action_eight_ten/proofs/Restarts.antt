@@ -34,6 +34,7 @@ use Rattle.recovered.specs.declared.Kind.{Kind}
 use Rattle.recovered.specs.declared.Kind.the-variants.{Eight, Ten, TenA}
 use Rattle.recovered.specs.declared.Recovered.the-variants as Recovered
 use Rattle.recovered.specs.Applied.{applied}
+use Rattle.restart.specs.declared.ReadCount.the-variants.{Omitted}
 use Rattle.decision.specs.declared.Orientation.{Orientation}
 use Rattle.decision.specs.declared.Orientation.the-variants.{Home}
 use Rattle.decision.specs.declared.RestartPlan.{RestartPlan}
@@ -58,12 +59,12 @@ from-home o track m to e = rw e (refl, refl)
 
 module _ (mask : FileMask) (track : Address) (to : ℕ) (kind : Kind) where
   abbrev planned : RestartPlan
-  planned = record { kind = kind; track = track; mask = mask; sector = 0; number = 0; to = to }
+  planned = record { kind = kind; counts = Omitted; track = track; mask = mask; sector = 0; number = 0; to = to }
 
-  pub home-built : (n : Correction) → n ≡ nothing → orientationOf kind ≡ Home → Homes mask track to kind (Restarts planned n)
+  pub home-built : (n : Correction) → n ≡ nothing → orientationOf kind Omitted ≡ Home → Homes mask track to kind (Restarts planned n)
   unfolding Recovery.homeRestart seekAllowed applied mended mend
   home-built n e h = λ k chain csw i rows x r st p a u v.
-      let areas = from-home (orientationOf kind) track mask to h in
+      let areas = from-home (orientationOf kind Omitted) track mask to h in
       rw (e, by-seek x planned nothing st p a, areas .0, areas .1, ← i, v) (applied-pick (allowed x track) (Recovery.restarts k _ _ st) Recovery.actionTwo st p a)
 
 -- ---- an interrupted seek

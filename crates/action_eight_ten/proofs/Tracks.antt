@@ -20,7 +20,7 @@ use Rattle.channel.specs.declared.Csw.{Csw}
 use Rattle.channel.specs.declared.Slot.the-variants.{Holds, Past}
 use Rattle.channel.specs.Ccw.{isTic, fetchIn}
 use Rattle.drive.specs.declared.Command.{Command}
-use Rattle.drive.specs.declared.Command.the-variants.{NoOperation, Seek, SetMask, SetSector, SearchId, ReadHome, ReadRecord, Unlisted}
+use Rattle.drive.specs.declared.Command.the-variants.{NoOperation, Seek, SetMask, SetSector, SearchId, ReadHome, ReadRecord, SearchIdMultitrack, ReadMultitrack, Unlisted}
 use Rattle.drive.proofs.Command as CommandType
 use Rattle.recovery.specs.Recovery as Recovery
 use Rattle.recovery.specs.Recovery.{isSeek, nextCylinder, nextTrack}
@@ -28,16 +28,18 @@ use Rattle.action_eight_ten.specs.EightTen.{Interrupts}
 
 -- ---- the command
 
-no-seek : (x : ℕ) → OneOf (0 ∷ 2 ∷ 3 ∷ 4 ∷ 5 ∷ 6 ∷ 7 ∷ []) x → x ≡ 1 → ⊥
+no-seek : (x : ℕ) → OneOf (0 ∷ 2 ∷ 3 ∷ 4 ∷ 5 ∷ 6 ∷ 7 ∷ 8 ∷ 9 ∷ []) x → x ≡ 1 → ⊥
 no-seek x (inl e) f = omega arith
 no-seek x (inr (inl e)) f = omega arith
 no-seek x (inr (inr (inl e))) f = omega arith
 no-seek x (inr (inr (inr (inl e)))) f = omega arith
 no-seek x (inr (inr (inr (inr (inl e))))) f = omega arith
 no-seek x (inr (inr (inr (inr (inr (inl e)))))) f = omega arith
-no-seek x (inr (inr (inr (inr (inr (inr e)))))) f = omega arith
+no-seek x (inr (inr (inr (inr (inr (inr (inl e))))))) f = omega arith
+no-seek x (inr (inr (inr (inr (inr (inr (inr (inl e)))))))) f = omega arith
+no-seek x (inr (inr (inr (inr (inr (inr (inr (inr e)))))))) f = omega arith
 
-pub other-command : (k : Command) → OneOf (0 ∷ 2 ∷ 3 ∷ 4 ∷ 5 ∷ 6 ∷ 7 ∷ []) (Declared.tagOf CommandType.the-type k) → false ≡ isSeek k
+pub other-command : (k : Command) → OneOf (0 ∷ 2 ∷ 3 ∷ 4 ∷ 5 ∷ 6 ∷ 7 ∷ 8 ∷ 9 ∷ []) (Declared.tagOf CommandType.the-type k) → false ≡ isSeek k
 unfolding isSeek
 other-command NoOperation h = refl
 other-command Seek h = absurd (no-seek 1 h refl)
@@ -47,6 +49,8 @@ other-command SearchId h = refl
 other-command ReadHome h = refl
 other-command Unlisted h = refl
 other-command (ReadRecord k) h = refl
+other-command SearchIdMultitrack h = refl
+other-command (ReadMultitrack k) h = refl
 
 -- ---- the next track
 

@@ -14,11 +14,13 @@ use recovered::Kind;
 use recovered::Recovered;
 use report::Told;
 use report::User;
+use restart::ReadCount;
 ghost use mathlib.Core.Path.{_≡_};
 ghost use mathlib.Core.Bool.{true};
 ghost use Prim.Native.Nat.{_<_, _≤_};
 ghost use lib.ListN.{length};
 ghost use Rattle.address.specs.Order.{lastCylinder, onPack};
+ghost use Rattle.restart.specs.declared.ReadCount.the-variants.{Omitted};
 ghost use Rattle.recovery.specs.Recovery as Recovery;
 ghost use Rattle.report.specs.Told.{ToldLow};
 ghost use Rattle.decision.specs.declared.Orientation.the-variants.{Home};
@@ -80,12 +82,13 @@ fn interrupted(chain: &[u8], csw: Csw) -> Slot
 // The restart at the home address of track a, which goes on with the chain's CCW at `to`.
 fn home(mask: FileMask, a: Address, to: usize, kind: Kind) -> Decision
     requires { ⌜ to < 65536 ⌝ }
-    requires { ⌜ orientationOf kind ≡ Home ⌝ }
+    requires { ⌜ orientationOf kind Omitted ≡ Home ⌝ }
     ensures { λ r. ⌜ Homes mask a to kind r ⌝ }
     ensures { λ r. ⌜ GoesLow r ⌝ }
 {
     let plan = RestartPlan {
         kind: kind,
+        counts: ReadCount::Omitted,
         track: a,
         mask: mask,
         sector: 0,

@@ -26,7 +26,8 @@ use Rattle.channel.specs.Ccw.{chainsCommand, next, resolve}
 use Rattle.channel.specs.Walk.{incorrectLength}
 use Rattle.drive.specs.declared.FileMask.{FileMask}
 use Rattle.drive.specs.Step.{spread}
-use Rattle.restart.specs.Restart.{searchProgram, searchArguments}
+use Rattle.restart.specs.declared.ReadCount.{ReadCount}
+use Rattle.restart.specs.Restart.{countFor, searchProgram, searchArguments}
 use Rattle.recovery.specs.Recovery as Recovery
 use Rattle.recovery.specs.Recovery.{onlyChain, onNext, seekAllowed, fetchMode, lessUnitCheck}
 use Rattle.recovery.specs.Correct.{corrected}
@@ -61,28 +62,28 @@ correction-is s st t stayed ps h k =
 -- ---- a restart
 
 -- by bit 3 of the command that it goes on with
-by-bit : (b : Bool) (track : Address) (m : FileMask) (to sector number : ℕ) (s st p a : List ℕ)
-    → with (Recovered.Restart (pick b Five FiveA)) s (programBy (orientationOf (pick b Five FiveA)) m to) (argumentsBy (orientationOf (pick b Five FiveA)) track m sector number)
-    ≡ applied (Recovery.restarts (pick b Recovery.five Recovery.fiveA) (searchProgram m (not b) to) (searchArguments track m sector number) s) st p a
+by-bit : (b : Bool) (n : ReadCount) (track : Address) (m : FileMask) (to sector number : ℕ) (s st p a : List ℕ)
+    → with (Recovered.Restart (pick b Five FiveA)) s (programBy (orientationOf (pick b Five FiveA) n) m to) (argumentsBy (orientationOf (pick b Five FiveA) n) track m sector number)
+    ≡ applied (Recovery.restarts (pick b Recovery.five Recovery.fiveA) (searchProgram m n to) (searchArguments track m sector number) s) st p a
 unfolding pick programBy argumentsBy applied
-by-bit true track m to sector number s st p a = refl
-by-bit false track m to sector number s st p a = refl
+by-bit true n track m to sector number s st p a = refl
+by-bit false n track m to sector number s st p a = refl
 
-pub search-restarts : (t : Told) (stayed : ThreeStayed) (to : ℕ) (d : Ccw) (k : Kind) (c : Correction) → k ≡ searchKind d → c ≡ correctionOf (t .sense) stayed
+pub search-restarts : (t : Told) (stayed : ThreeStayed) (to : ℕ) (d : Ccw) (k : Kind) (n : ReadCount) (c : Correction) → k ≡ searchKind d → n ≡ countFor (d .command) → c ≡ correctionOf (t .sense) stayed
     → SearchRestarts t stayed to d
-    (Restarts (record { kind = k; track = t .sense .track; mask = t .mask; sector = t .sense .sector; number = t .sense .number; to = to }) c)
+    (Restarts (record { kind = k; counts = n; track = t .sense .track; mask = t .mask; sector = t .sense .sector; number = t .sense .number; to = to }) c)
 unfolding seekAllowed Recovery.searchRestart searchKind applied
-search-restarts t stayed to d k c f e = λ chain rows x r st p a ps h q.
+search-restarts t stayed to d k n c f g e = λ chain rows x r st p a ps h q.
     let s = r .sense in
     let b = bitOn 3 (d .command) in
-    let plan : RestartPlan = record { kind = searchKind d; track = Recovery.cutTrack s; mask = r .mask; sector = getD s 13 0; number = getD s 12 0; to = to } in
+    let plan : RestartPlan = record { kind = searchKind d; counts = countFor (d .command); track = Recovery.cutTrack s; mask = r .mask; sector = getD s 13 0; number = getD s 12 0; to = to } in
     ap₂ (λ (u : RestartPlan) (v : Correction). done (bounded x (Restarts u v)) st p a)
-    (λ i. record { kind = f i; track = sym (h .sense .track) i; mask = sym (h .mask) i; sector = sym (h .sense .sector) i; number = sym (h .sense .number) i; to = to }) e
+    (λ i. record { kind = f i; counts = g i; track = sym (h .sense .track) i; mask = sym (h .mask) i; sector = sym (h .sense .sector) i; number = sym (h .sense .number) i; to = to }) e
     ∙ by-seek x plan (correctionOf (t .sense) stayed) st p a
     ∙ ap (λ v. pick (allowed x (Recovery.cutTrack s)) v (with Recovered.ActionTwo st p a))
-    (ap (λ v. with (Recovered.Restart (searchKind d)) v (programBy (orientationOf (searchKind d)) (r .mask) to) (argumentsBy (orientationOf (searchKind d)) (Recovery.cutTrack s) (r .mask) (getD s 13 0) (getD s 12 0)))
+    (ap (λ v. with (Recovered.Restart (searchKind d)) v (programBy (orientationOf (searchKind d) (countFor (d .command))) (r .mask) to) (argumentsBy (orientationOf (searchKind d) (countFor (d .command))) (Recovery.cutTrack s) (r .mask) (getD s 13 0) (getD s 12 0)))
     (correction-is s st (t .sense) stayed ps (h .sense) q)
-    ∙ by-bit b (Recovery.cutTrack s) (r .mask) to (getD s 13 0) (getD s 12 0) (Recovery.correction s ps st) st p a)
+    ∙ by-bit b (countFor (d .command)) (Recovery.cutTrack s) (r .mask) to (getD s 13 0) (getD s 12 0) (Recovery.correction s ps st) st p a)
     ∙ applied-pick (allowed x (Recovery.cutTrack s)) _ Recovery.actionTwo st p a
 
 -- ---- the CCW that comes next

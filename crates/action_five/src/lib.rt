@@ -14,6 +14,7 @@ use recovered::Kind;
 use recovered::Recovered;
 use report::Sense;
 use report::Told;
+use restart::ReadCount;
 ghost use mathlib.Core.Path.{_≡_};
 ghost use mathlib.Core.Bool.{_||_, not};
 ghost use mathlib.Core.List.{[]};
@@ -22,6 +23,7 @@ ghost use lib.ListN.{length};
 ghost use Rattle.channel.specs.declared.Location.the-variants.{Chain};
 ghost use Rattle.channel.specs.Ccw.{chainsCommand};
 ghost use Rattle.channel.specs.Fetch.{InBytes, Inside};
+ghost use Rattle.restart.specs.Restart.{countFor};
 ghost use Rattle.recovery.specs.Recovery as Recovery;
 ghost use Rattle.decision.specs.Decision.{Decides, GoesLow};
 ghost use Rattle.recovered.specs.Sensible.{InBounds};
@@ -49,6 +51,21 @@ fn search_kind(d: Ccw) -> Kind
     Kind::FiveA
 }
 
+// The read count before that CCW.
+fn read_count(d: Ccw) -> ReadCount
+    ensures { λ r. ⌜ r ≡ countFor (d .command) ⌝ }
+{
+    let code = d.command;
+    if base::bit(code, 3) {
+        return ReadCount::Omitted;
+    }
+    match code {
+        0x86 => ReadCount::Multitrack,
+        0x8e => ReadCount::Multitrack,
+        _ => ReadCount::Single,
+    }
+}
+
 // The restart that goes on with the CCW d at an address of the chain.
 fn search_restart(t: Told, stayed: ThreeStayed, to: usize, d: Ccw) -> Decision
     requires { ⌜ to < 65536 ⌝ }
@@ -60,6 +77,7 @@ fn search_restart(t: Told, stayed: ThreeStayed, to: usize, d: Ccw) -> Decision
     let track = s.track;
     let plan = RestartPlan {
         kind: search_kind(d),
+        counts: read_count(d),
         track: track,
         mask: mask,
         sector: s.sector,

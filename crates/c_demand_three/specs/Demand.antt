@@ -7,7 +7,7 @@ use lib.ListN.{length}
 use Rattle.base.specs.Bytes.{two}
 use Rattle.channel.specs.Csw.{cswBytes}
 use Rattle.drive.specs.Step.{End}
-use Rattle.demand_three.specs.Demand.{Lending, Begins, Provided, faultedAreas, LikeFaultless}
+use Rattle.demand_three.specs.Demand.{Lending, Begins, Provided, endOf, faultedAreas, LikeFaultless}
 use Rattle.reading_runs.specs.Conclusion.{listAfter, programAfter, restartArgumentsAfter}
 use Rattle.call_demand_three.specs.Demand.{Beside, Lends}
 use Rattle.giruve.specs.Reading.{ReadingHanded, ReadingHandsOut}
@@ -19,9 +19,10 @@ pub record HandedLikeFaultless (g : Lending) (e : End) (b : Beside) (h : Reading
   pub like : LikeFaultless g e
   -- "the whole reading ends, neither as 'limit' nor as 'stopped'": 0 is returned
   pub number : h .number ≡ 0
-  -- "ending address, unit and channel status and remaining count equal those of the faultless run": its CSW; "the recoveries that the reading
-  -- reports number the faulted data areas that this faultless run reads, one for each time": two bytes; nothing stopped it: 0
-  pub answer : h .answer ≡ cswBytes (e .csw) ++ two (length (faultedAreas g)) ++ 0 ∷ []
+  -- "ending address, unit and channel status and remaining count equal those of the faultless run": its CSW, but for the exception that `endOf`
+  -- states; "the recoveries that the reading reports number the faulted data areas that this faultless run reads, one for each time": two bytes;
+  -- nothing stopped it: 0
+  pub answer : h .answer ≡ cswBytes (endOf g e .csw) ++ two (length (faultedAreas g)) ++ 0 ∷ []
   -- "storage" equals that of the faultless run too
   pub storage : h .storage ≡ e .storage
   -- the list names these recoveries, in order; behind them it is as lent

@@ -12,8 +12,9 @@ use Rattle.address.specs.Within.{extentOf}
 use Rattle.drive.specs.Step.{End}
 use Rattle.recovery.specs.Table.{rows}
 use Rattle.demand_three.specs.WholeReading.{Whole, wholeReading, final}
-use Rattle.demand_three.specs.Demand.{Lending, settingOf, Begins, recovered, faultedAreas, LikeFaultless}
+use Rattle.demand_three.specs.Demand.{Lending, settingOf, Begins, endOf, recovered, faultedAreas, LikeFaultless}
 use Rattle.demand_three.proofs.DemandThree.{demand-three}
+use Rattle.demand_three.proofs.Exception.{same-but-for-the-count}
 use Rattle.reading_runs.specs.declared.How.the-variants.{Ended}
 use Rattle.reading_runs.specs.declared.Outcome.the-variants.{Over}
 use Rattle.reading_runs.specs.Conclusion.{Conclusion, over, concluded}
@@ -40,8 +41,8 @@ call-keeps-demand-three g e begins provided b lends c answers =
     answers ∙ begun g b begins lends ∙ ap (λ (q : Whole). concluded q (b .program) (b .restartArguments) (b .list)) (like .same-end) in
     record {
       like = like;
-      answer = ap (λ (k : Conclusion). k .answer) is ∙ ap (λ (n : ℕ). Over (record { csw = e .csw; made = n; how = Ended })) (length-made like);
-      storage = ap (λ (k : Conclusion). k .storage) is;
+      answer = ap (λ (k : Conclusion). k .answer) is ∙ ap (λ (n : ℕ). Over (record { csw = endOf g e .csw; made = n; how = Ended })) (length-made like);
+      storage = ap (λ (k : Conclusion). k .storage) is ∙ same-but-for-the-count g e begins provided .same-storage;
       list = ap (λ (k : Conclusion). k .list) is;
       program = ap (λ (k : Conclusion). k .program) is;
       restartArguments = ap (λ (k : Conclusion). k .restartArguments) is;

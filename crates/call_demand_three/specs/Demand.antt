@@ -8,7 +8,7 @@ use lib.Dec.{leb}
 use lib.ListN.{length}
 use Rattle.questions.specs.Areas.{restartAreas}
 use Rattle.drive.specs.Step.{End}
-use Rattle.demand_three.specs.Demand.{Lending, Begins, Provided, faultedAreas, LikeFaultless}
+use Rattle.demand_three.specs.Demand.{Lending, Begins, Provided, endOf, faultedAreas, LikeFaultless}
 use Rattle.reading_runs.specs.declared.How.the-variants.{Ended}
 use Rattle.reading_runs.specs.declared.Outcome.the-variants.{Over}
 use Rattle.reading_runs.specs.Conclusion.{Conclusion, listAfter, programAfter, restartArgumentsAfter}
@@ -30,9 +30,9 @@ pub record Keeps (g : Lending) (e : End) (b : Beside) (c : Conclusion) : Type 0 
   -- the reading as the definitions have it, with the recoveries that it makes and every restart that it builds: "no restart's own seek lies
   -- outside the extent"
   pub like : LikeFaultless g e
-  -- it ends, neither as "limit" nor as "stopped", with the faultless run's address, unit and channel status and count left; "the recoveries that
-  -- the reading reports number the faulted data areas that this faultless run reads, one for each time"
-  pub answer : c .answer ≡ Over (record { csw = e .csw; made = length (faultedAreas g); how = Ended })
+  -- it ends, neither as "limit" nor as "stopped", with the faultless run's address, unit and channel status and count left, but for the exception
+  -- that `endOf` states; "the recoveries that the reading reports number the faulted data areas that this faultless run reads, one for each time"
+  pub answer : c .answer ≡ Over (record { csw = endOf g e .csw; made = length (faultedAreas g); how = Ended })
   -- storage equals the faultless run's
   pub storage : c .storage ≡ e .storage
   -- the list names these recoveries, in order

@@ -12,7 +12,7 @@ use Rattle.position.specs.declared.Drive.{Drive}
 use Rattle.position.specs.declared.Examined.{Examined}
 use Rattle.position.specs.Standing.{driveOf, Standing, ExaminedStands}
 use Rattle.command.specs.declared.Check.{Check}
-use Rattle.command.specs.declared.Check.the-variants.{Rejected, NotFound, Protected}
+use Rattle.command.specs.declared.Check.the-variants.{Rejected, NotFound, Protected, EndOfCylinder}
 use Rattle.command.specs.declared.Status.{Status}
 use Rattle.command.specs.declared.Status.the-variants.{Quiet, Refused}
 use Rattle.command.specs.declared.State.{State}
@@ -26,6 +26,7 @@ abbrev pub checkOf : Check → Step.Check
 checkOf Rejected = Step.rejected
 checkOf NotFound = Step.notFound
 checkOf Protected = Step.protected
+checkOf EndOfCylinder = Step.endOfCylinder
 
 -- the sense bytes of an end that no faulted data area made
 abbrev pub senseOf : Status → List ℕ

@@ -19,6 +19,7 @@ pub enum Check {
     Rejected,
     NotFound,
     Protected,
+    EndOfCylinder,
 }
 
 // Why a chain ended: of itself or by a program check, or by a unit check.

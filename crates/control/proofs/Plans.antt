@@ -1,7 +1,7 @@
 -- What commands come to, from the tests that the code makes.
 --   next-low                        the CCW behind one whose address a CSW can show
 --   other-count .. count-above      a control or search command's count
---   no-home, no-record              reads are none of these commands
+--   no-home .. no-read-multitrack   reads and multitrack commands are none of these
 --   word-is                         a number of two bytes
 --   argument-in                     a command without program check has its argument inside its area
 --   noop-rejected, noop-done        a no-operation
@@ -32,7 +32,7 @@ use Rattle.channel.specs.Ccw.{Lent, addressOf, next, chainsData, argumentsAt, a
 use Rattle.location.specs.Low.{Low}
 use Rattle.drive.specs.declared.Read.{Read}
 use Rattle.drive.specs.declared.Command.{Command}
-use Rattle.drive.specs.declared.Command.the-variants.{NoOperation, Seek, SetMask, SetSector, SearchId, ReadHome, ReadRecord, Unlisted}
+use Rattle.drive.specs.declared.Command.the-variants.{NoOperation, Seek, SetMask, SetSector, SearchId, ReadHome, ReadRecord, SearchIdMultitrack, ReadMultitrack, Unlisted}
 use Rattle.drive.specs.declared.FileMask.the-variants.{Set}
 use Rattle.drive.specs.Arguments.{ArgumentIn, ArgumentByte}
 use Rattle.drive.specs.Drive as Abstract
@@ -83,6 +83,14 @@ pub no-record : {P : Type 0} (k : Read) → moveless (ReadRecord k) ≡ true →
 unfolding moveless
 no-record k h = never h
 
+pub no-search-multitrack : {P : Type 0} → moveless SearchIdMultitrack ≡ true → P
+unfolding moveless
+no-search-multitrack h = never h
+
+pub no-read-multitrack : {P : Type 0} (k : Read) → moveless (ReadMultitrack k) ≡ true → P
+unfolding moveless
+no-read-multitrack k h = never h
+
 pub word-is : {a b x y : ℕ} → a ≡ x → b ≡ y → a * 256 + b ≡ x * 256 + y
 word-is h g = rw (h, g)
 
@@ -97,6 +105,8 @@ argument-in p l size c NoOperation h g = never g
 argument-in p l size c Unlisted h g = never g
 argument-in p l size c ReadHome h g = never g
 argument-in p l size c (ReadRecord k) h g = never g
+argument-in p l size c SearchIdMultitrack h g = never g
+argument-in p l size c (ReadMultitrack k) h g = never g
 
 abbrev track : ℕ → ℕ → Address
 track u v = record { cylinder = u; head = v }

@@ -10,7 +10,7 @@ use Rattle.channel.specs.declared.Ccw.{Ccw}
 use Rattle.channel.specs.declared.Location.{Location}
 use Rattle.channel.specs.Ccw.{Lent, argument}
 use Rattle.drive.specs.declared.Command.{Command}
-use Rattle.drive.specs.declared.Command.the-variants.{NoOperation, Seek, SetMask, SetSector, SearchId, ReadHome, ReadRecord, Unlisted}
+use Rattle.drive.specs.declared.Command.the-variants.{NoOperation, Seek, SetMask, SetSector, SearchId, ReadHome, ReadRecord, SearchIdMultitrack, ReadMultitrack, Unlisted}
 use Rattle.drive.specs.Drive as Abstract
 use Rattle.drive.specs.Step as Step
 use Rattle.command.specs.declared.Answer.{Answer}
@@ -34,7 +34,7 @@ ArgumentWord s r l c k n = (p : Lent) → p .arguments ≡ s → p .restartArgum
 abbrev pub Seeks : ℕ → Address → Location → Ccw → Abstract.Drive → Answer → Type 0
 Seeks n a l c d r = (g : List ℕ) → be16At g 0 ≡ n → Step.sought g ≡ a → Plans (λ st. Step.planSeek l c d st lastCylinder g) r
 
--- the commands that move no byte of storage
+-- the commands that move no byte of storage, on one track
 unfoldable pub moveless : Command → Bool
 moveless NoOperation = true
 moveless Seek = true
@@ -43,6 +43,8 @@ moveless SetSector = true
 moveless SearchId = true
 moveless ReadHome = false
 moveless (ReadRecord k) = false
+moveless SearchIdMultitrack = false
+moveless (ReadMultitrack k) = false
 moveless Unlisted = true
 
 -- those that have an argument
@@ -54,4 +56,6 @@ argues SetSector = true
 argues SearchId = true
 argues ReadHome = false
 argues (ReadRecord k) = false
+argues SearchIdMultitrack = false
+argues (ReadMultitrack k) = false
 argues Unlisted = false

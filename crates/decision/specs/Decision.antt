@@ -1,13 +1,13 @@
 -- What a decision means: the answer of recovery, and the areas behind it.
 use Prim.Native.Nat.{ℕ, _<_}
 use mathlib.Core.Path.{_≡_}
-use mathlib.Core.Bool.{true, false}
 use mathlib.Core.List.{List, []}
 use lib.ListN.{length}
 use Rattle.base.specs.Choice.{pick}
 use Rattle.address.specs.declared.Address.{Address}
 use Rattle.address.specs.declared.Extent.{Extent}
 use Rattle.drive.specs.declared.FileMask.{FileMask}
+use Rattle.restart.specs.declared.ReadCount.{ReadCount}
 use Rattle.restart.specs.Restart.{ccwBytes, programOf, searchProgram, restartArgumentsOf, searchArguments}
 use Rattle.recovery.specs.Table.{Row}
 use Rattle.recovery.specs.Report.{Report}
@@ -30,12 +30,12 @@ use Rattle.decision.specs.declared.Decision.the-variants.{Answers, Corre
 -- ---- the restart areas of a plan
 
 -- "search ID", and for 5A "a read count"; 8, 10 and 10A begin at the home address
-abbrev pub orientationOf : Kind → Orientation
-orientationOf Five = Search false
-orientationOf FiveA = Search true
-orientationOf Eight = Home
-orientationOf Ten = Home
-orientationOf TenA = Home
+abbrev pub orientationOf : Kind → ReadCount → Orientation
+orientationOf Five counts = Search counts
+orientationOf FiveA counts = Search counts
+orientationOf Eight counts = Home
+orientationOf Ten counts = Home
+orientationOf TenA counts = Home
 
 -- the program, by how it comes to its record
 unfoldable pub programBy : Orientation → FileMask → ℕ → List ℕ
@@ -49,11 +49,11 @@ argumentsBy Home a m sector number = restartArgumentsOf a m 0 []
 
 -- the program of a plan
 abbrev pub programFor : RestartPlan → List ℕ
-programFor q = programBy (orientationOf (q .kind)) (q .mask) (q .to)
+programFor q = programBy (orientationOf (q .kind) (q .counts)) (q .mask) (q .to)
 
 -- its arguments
 abbrev pub argumentsFor : RestartPlan → List ℕ
-argumentsFor q = argumentsBy (orientationOf (q .kind)) (q .track) (q .mask) (q .sector) (q .number)
+argumentsFor q = argumentsBy (orientationOf (q .kind) (q .counts)) (q .track) (q .mask) (q .sector) (q .number)
 
 -- ---- a decision
 

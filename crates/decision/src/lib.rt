@@ -5,23 +5,25 @@ use correction::Correction;
 use drive::FileMask;
 use recovered::Kind;
 use recovered::Recovered;
+use restart::ReadCount;
 ghost use mathlib.Core.Path.{_≡_};
 ghost use lib.ListN.{length};
 ghost use Rattle.recovered.specs.Applied.{with};
 ghost use Rattle.decision.specs.Decision.{orientationOf, programFor, argumentsFor, done, bounded, PlanLow, GoesLow, DecisionLow};
 
-// How a restart comes to its record: by a search for its ID, with a read count behind it or not; or from the home address on.
+// How a restart comes to its record: by a search for its ID, with the read count behind it; or from the home address on.
 pub enum Orientation {
-    Search(bool),
+    Search(ReadCount),
     Home,
 }
 
-// A restart: which; its track, mask, sector and record number; and the address of the chain's CCW that it goes on with.
+// A restart: which; its track, mask, sector, record number and read count; and the address of the chain's CCW that it goes on with.
 pub struct RestartPlan {
     pub to: usize,
     pub track: Address,
     pub mask: FileMask,
     pub kind: Kind,
+    pub counts: ReadCount,
     pub sector: u8,
     pub number: u8,
 }
@@ -55,13 +57,13 @@ pub fn bound(x: Extent, d: Decision) -> Decision
 
 // ---- a decision carried out
 
-// How a restart of this kind comes to its record.
-fn orient(kind: Kind) -> Orientation
-    ensures { λ r. ⌜ r ≡ orientationOf kind ⌝ }
+// How a restart of this kind comes to its record, with this read count.
+fn orient(kind: Kind, counts: ReadCount) -> Orientation
+    ensures { λ r. ⌜ r ≡ orientationOf kind counts ⌝ }
 {
     match kind {
-        Kind::Five => Orientation::Search(false),
-        Kind::FiveA => Orientation::Search(true),
+        Kind::Five => Orientation::Search(counts),
+        Kind::FiveA => Orientation::Search(counts),
         Kind::Eight => Orientation::Home,
         Kind::Ten => Orientation::Home,
         Kind::TenA => Orientation::Home,
@@ -77,11 +79,12 @@ fn put_restart(program: &mut [u8], restart_arguments: &mut [u8], q: RestartPlan)
     ensures { λ _. ⌜ now («restart_arguments» .exit) ≡ argumentsFor q ⌝ }
 {
     let kind = q.kind;
+    let counts = q.counts;
     let mask = q.mask;
     let track = q.track;
-    match orient(kind) {
-        Orientation::Search(counts) => {
-            restart_areas::search_program(program, mask, counts, q.to);
+    match orient(kind, counts) {
+        Orientation::Search(found) => {
+            restart_areas::search_program(program, mask, found, q.to);
             restart_areas::search_arguments(restart_arguments, track, mask, q.sector, q.number);
         }
         Orientation::Home => {

@@ -2,9 +2,10 @@
 use Prim.Native.Nat.{ℕ, zero, suc}
 use native.Mathlib.Omega.{arith}
 use mathlib.Core.Path.{_≡_, refl, _∙_}
-use mathlib.Core.Bool.{false}
+use mathlib.Core.Bool.{Bool, true, false}
+use mathlib.Core.Option.{Option, none, some}
 use mathlib.Core.List.{List, [], _∷_}
-use Rattle.base.specs.Choice.{pick}
+use Rattle.base.specs.Choice.{pick, opt}
 use Rattle.base.proofs.Choice.{split}
 use Rattle.questions.specs.Areas.{restartLimit}
 use Rattle.address.specs.declared.Extent.{Extent}
@@ -16,19 +17,25 @@ use Rattle.channel.specs.declared.Location.the-variants.{Chain}
 use Rattle.channel.proofs.InChain.{InChain}
 use Rattle.drive.specs.Drive.{initial}
 use Rattle.channel.specs.Csw.{cswAt}
-use Rattle.drive.specs.Step.{State, End, Cut, Setting, noSense, step}
+use Rattle.drive.specs.Step.{State, End, Cut, Setting, Area, areaIn, noSense, plan, step}
 use Rattle.drive.specs.Run.{Limit, limitOf, start, ticFirst, runFrom}
 use Rattle.drive.proofs.Origin as Origin
 use Rattle.recovery.specs.Table.{rows}
 use Rattle.recovery.specs.Recovery.{fetchMode}
 use Rattle.demand_three.specs.WholeReading.{Restarted, recoverCut, restartedRun, final, givenIn, wholeReading}
-use Rattle.demand_three.specs.Demand.{Lending, settingOf, Begins, Provided, recovered, faultedAreas, SeeksInside, EachInside, LikeFaultless, DemandThree}
-use Rattle.demand_three.proofs.Hits.{flag, flags-are, unflagged}
-use Rattle.demand_three.proofs.Mending.{areas-limit, Good, Fine, ended-is, closes, mends}
+use Rattle.demand_three.specs.Demand.{Lending, settingOf, Begins, Provided, takesFaulted, endsByStep, endsAtCount, atCount, endOf, recovered, faultedAreas, SeeksInside, EachInside, LikeFaultless, DemandThree}
+use Rattle.demand_three.proofs.Hits.{flag, nameIf, flags-are, unflagged}
+use Rattle.demand_three.proofs.Mending.{areas-limit, Good, Fine, ended-is, closes, goes-on}
 
 each-inside : (x : Extent) (rs : List Restarted) → Each (SeeksInside x) rs → EachInside x rs
 each-inside x [] h = tt
 each-inside x (r ∷ rs) h = (h .0, each-inside x rs (h .1))
+
+-- a data area is marked where it is named
+marked-if : (f : Area → Bool) → ((a : Area) → f a ≡ opt (nameIf a) false (λ h. true)) → (o : Option Area) → opt o false f ≡ opt (opt o none nameIf) false (λ h. true)
+unfolding opt
+marked-if f h none = refl
+marked-if f h (some a) = h a
 
 module _ (g : Lending) (e : End) (b : Begins g) (p : Provided g e) where
   abbrev w : Setting
@@ -48,7 +55,7 @@ module _ (g : Lending) (e : End) (b : Begins g) (p : Provided g e) where
       absurd (p .sound (rw (← (ended-is v)) refl)))
       (λ q. q)
 
-  runs : run (step [] w) limitOf (g .limit) begun ≡ ended e
+  pub runs : run (step [] w) limitOf (g .limit) begun ≡ ended e
   unfolding runFrom pick
   runs = rw no-tic at (p .faultless)
 
@@ -71,12 +78,19 @@ module _ (g : Lending) (e : End) (b : Begins g) (p : Provided g e) where
       along-on (step [] w) (Fine g b (p .inside)) n s (record { calm = here .0; here = here .1 .0; legal-mask = here .1 .1 })
       (λ t q. all-fine n t (along-goes (step [] w) (λ s. (fetchMode (s .drive .mask) ≡ false) × Stays s) n s t q h))
 
+  -- the marks of the exception: a command that takes a faulted data area has a flag
+  marks : (s : State) → takesFaulted g s ≡ opt (flag (g .faults) w s) false (λ h. true)
+  unfolding takesFaulted flag nameIf opt pick
+  marks s = marked-if _ (λ a. split (a .faulted) (λ e. rw e) (λ e. rw e)) (areaIn (g .faults) (plan w s))
+
   reads : Reads (restartedRun (g .faults) w) (recoverCut (givenIn w rows (extentOf (g .extent)))) final recovered (SeeksInside (extentOf (g .extent)))
-      (g .limit) (record { made = []; built = [] }) (run (step (g .faults) w) limitOf (g .limit) begun) e (notes (step [] w) (flag (g .faults) w) (g .limit) begun)
+      (g .limit) (record { made = []; built = [] }) (run (step (g .faults) w) limitOf (g .limit) begun) (endOf g e) (notes (step [] w) (flag (g .faults) w) (g .limit) begun)
+  unfolding endOf endsAtCount
   reads =
       let small = areas-limit _ _ _ _ _ (g .limit) (b .areas) in
       whole (step (g .faults) w) limitOf (restartedRun (g .faults) w) (recoverCut (givenIn w rows (extentOf (g .extent)))) final recovered restartLimit 260 (SeeksInside (extentOf (g .extent)))
-      (step [] w) (flag (g .faults) w) (Fine g b (p .inside)) Good (λ s fine q. unflagged (g .faults) w s q) (mends g b (p .inside)) (closes g b (p .inside))
+      (step [] w) (flag (g .faults) w) (takesFaulted g) (endsByStep w) atCount (Fine g b (p .inside)) Good
+      (λ s fine q. unflagged (g .faults) w s q) marks (goes-on g b (p .inside)) (closes g b (p .inside))
       (g .limit) begun e runs (p .sound) (all-fine (g .limit) begun stays) (omega arith)
       (g .limit) (g .limit) (record { made = []; built = [] }) (omega arith) (notes-few (step [] w) (flag (g .faults) w) (g .limit) begun)
 

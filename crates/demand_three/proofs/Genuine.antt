@@ -26,6 +26,9 @@ use Rattle.channel.specs.Walk.{Walk, walked, checked, incorrectLength}
 use Rattle.channel.proofs.Stretch.{length-store}
 use Rattle.channel.proofs.InChain.{InChain, walk-same}
 use Rattle.channel.proofs.Walks.{Short, short-walked}
+use Rattle.drive.specs.declared.Read.{Read}
+use Rattle.drive.specs.declared.Command.{Command}
+use Rattle.drive.specs.declared.Command.the-variants.{ReadRecord, ReadMultitrack}
 use Rattle.drive.specs.declared.FileMask.{FileMask}
 use Rattle.drive.specs.Command.{commandOf}
 use Rattle.drive.specs.Drive.{addressBytes}
@@ -37,7 +40,7 @@ use Rattle.recovery.specs.Table as Table
 use Rattle.recovery.specs.Report.{Report}
 use Rattle.recovery.specs.Recovery as Recovery
 use Rattle.recovery.specs.Recovery.{Given, onlyChain, recover, afterWalk, fetchMode, restartDisplacement, errorDisplacement, sensible, retrace, agrees, correction, walkedTo, actionFive, alike, cutTrack, readsData, lessUnitCheck, seekAllowed, onNext, searchRestart, finished, restarts, five, fiveA}
-use Rattle.restart.specs.Restart.{searchProgram, searchArguments}
+use Rattle.restart.specs.Restart.{countFor, searchProgram, searchArguments}
 use Rattle.recovery.proofs.Restored.{restored, length-spread}
 use Rattle.demand_three.specs.WholeReading.{reportOf}
 
@@ -91,6 +94,12 @@ unfolding alike bitOn lengthStatus pick
 alike-status true = refl
 alike-status false = refl
 
+-- a read of a data area is one that question 9 takes
+reads-data : (c : Command) (k : Read) → Origin.Reads c k → k .datas ≡ true → readsData c ≡ true
+unfolding readsData
+reads-data (ReadRecord j) k Origin.on-track h = h
+reads-data (ReadMultitrack j) k Origin.multitrack h = h
+
 -- what follows the walk, by its tests
 module _ (g : Given) (r : Report) (st : List ℕ) (ps : List (Option ℕ)) (l : Location) (c : Ccw) (wrong : Bool) (calm : fetchMode (r .mask) ≡ false) where
   after-end : (wrong || not (chainsCommand c)) ≡ true → afterWalk g r st ps l c wrong ≡ finished (lessUnitCheck (r .csw)) (correction (r .sense) ps st)
@@ -106,7 +115,7 @@ module _ (g : Given) (r : Report) (st : List ℕ) (ps : List (Option ℕ)) (l : 
 build-is : (g : Given) (r : Report) (st : List ℕ) (ps : List (Option ℕ)) (to : ℕ) (d : Ccw) {a : Address} {m : FileMask} {sector n : ℕ} {after : List ℕ}
     → seekAllowed g a ≡ true → cutTrack (r .sense) ≡ a → r .mask ≡ m → getD (r .sense) 13 0 ≡ sector → getD (r .sense) 12 0 ≡ n → correction (r .sense) ps st ≡ after
     → searchRestart g r st ps to d
-    ≡ restarts (pick (bitOn 3 (d .command)) five fiveA) (searchProgram m (not (bitOn 3 (d .command))) to) (searchArguments a m sector n) after
+    ≡ restarts (pick (bitOn 3 (d .command)) five fiveA) (searchProgram m (countFor (d .command)) to) (searchArguments a m sector n) after
 unfolding searchRestart pick
 build-is g r st ps to d u ea em es en eb = rw (ea, u, em, es, en, eb)
 
@@ -190,8 +199,7 @@ module _ (w : Setting) (s : State) (t : Transfer) (y : Record) (f : Fault) (ps :
   fetches = rw chain-is (chain-fetch (w .lent) (t .first) in-chain first-ccw (Origin.ccw-fetched w s t (gen .from) .0))
 
   reads : readsData (commandOf (first-ccw .command)) ≡ true
-  unfolding readsData
-  reads = let d = gen .from .data-from y (gen .area-is) in rw (d .command-is) (d .takes-data)
+  reads = let d = gen .from .data-from y (gen .area-is) in reads-data _ _ (d .command-is) (d .takes-data)
 
   agreed : agrees (report .csw) z left (incorrectLength c left over) ≡ true
   unfolding agrees reportOf cswAt
@@ -230,7 +238,7 @@ module _ (w : Setting) (s : State) (t : Transfer) (y : Record) (f : Fault) (ps :
     pub restarts-with : (incorrectLength c left over || not (chainsCommand c)) ≡ false → (to : ℕ) (d : Ccw) → resolve (onlyChain (g .chain)) z (next z) ≡ Got (Chain to) d
         → seekAllowed g (y .at) ≡ true
         → recover g report (k .storage)
-        ≡ restarts (pick (bitOn 3 (d .command)) five fiveA) (searchProgram (t .after .mask) (not (bitOn 3 (d .command))) to)
+        ≡ restarts (pick (bitOn 3 (d .command)) five fiveA) (searchProgram (t .after .mask) (countFor (d .command)) to)
         (searchArguments (y .at) (t .after .mask) 0 (y .r)) (store ps (t .bytes) (s .storage))
     restarts-with e to d q u =
         comes-to
@@ -238,6 +246,6 @@ module _ (w : Setting) (s : State) (t : Transfer) (y : Record) (f : Fault) (ps :
         ∙ built
       where
         built : searchRestart g report (k .storage) ps to d
-            ≡ restarts (pick (bitOn 3 (d .command)) five fiveA) (searchProgram (t .after .mask) (not (bitOn 3 (d .command))) to)
+            ≡ restarts (pick (bitOn 3 (d .command)) five fiveA) (searchProgram (t .after .mask) (countFor (d .command)) to)
             (searchArguments (y .at) (t .after .mask) 0 (y .r)) (store ps (t .bytes) (s .storage))
         built = build-is g report (k .storage) ps to d u (track-is k) mask-is (sector-is k) (number-is k) corrects

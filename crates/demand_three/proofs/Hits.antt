@@ -27,7 +27,7 @@ use Rattle.abstract_machine.specs.Machine.{notes}
 use Rattle.abstract_machine.proofs.Notes.{filtered, notes-filtered}
 use Rattle.channel.specs.declared.Ccw.{Ccw}
 use Rattle.drive.specs.Drive as Drive
-use Rattle.drive.specs.Drive.{noRecord}
+use Rattle.drive.specs.Drive.{Drive, noRecord}
 use Rattle.drive.specs.Step.{State, Setting, Transfer, moves, dataOf, plan, step, Area, areaIn}
 use Rattle.drive.proofs.Steps as Steps
 use Rattle.drive.proofs.Origin as Origin
@@ -95,8 +95,9 @@ pub record Hit (g : Lending) (s : State) (h : Named) : Type 0 where
   pub track : Track
   pub place : ℕ
   pub there : trackIn (packOf (g .image)) (y .at) ≡ some track
-  pub drive-at : s .drive .at ≡ y .at
-  pub after-is : t .after ≡ Drive.movedPast (s .drive) place false 0
+  pub reached : Drive
+  pub reached-at : reached .at ≡ y .at
+  pub after-is : t .after ≡ Drive.movedPast reached place false 0
   pub on-pack : onPack lastCylinder (y .at) ≡ true
   pub below : place < length (track .records)
   pub few : length (track .records) ≤ 256
@@ -139,12 +140,12 @@ module _ (g : Lending) (b : Begins g) (inside : allInside (extentOf (g .extent))
   w = settingOf g
 
   module _ (t : Transfer) (y : Record) (f : Fault) (named : naming (g .faults) (y .at) (y .r) ≡ some f) (c : Ccw) (T : Origin.Taken w s c y (t .bytes) (t .after)) where
-    track-there : trackIn (packOf (g .image)) (s .drive .at) ≡ some (T .track)
+    track-there : trackIn (packOf (g .image)) (T .reached .at) ≡ some (T .track)
     unfolding settingOf
     track-there = T .track-is
 
-    sound : (soundTrack lastCylinder (T .track) ≡ true) × (T .track .at ≡ s .drive .at)
-    sound = track-sound lastCylinder (g .image) (s .drive .at) (T .track) (b .image) track-there
+    sound : (soundTrack lastCylinder (T .track) ≡ true) × (T .track .at ≡ T .reached .at)
+    sound = track-sound lastCylinder (g .image) (T .reached .at) (T .track) (b .image) track-there
 
     parts : (onPack lastCylinder (T .track .at) ≡ true) × (zeroFirst (T .track .records) ≡ true) × (soundRecords (T .track .at) [] (T .track .records) ≡ true)
     parts = track-parts lastCylinder (T .track) (sound .0)
@@ -155,7 +156,7 @@ module _ (g : Lending) (b : Begins g) (inside : allInside (extentOf (g .extent))
     y-says : RecordSays (T .track .at) y
     y-says = rw (T .record-is) at (each (T .place) (T .below))
 
-    at-is : s .drive .at ≡ y .at
+    at-is : T .reached .at ≡ y .at
     at-is = sym (y-says .at-track ∙ sound .1)
 
     fault-sound : (f .at ≡ y .at) × (f .r ≡ y .r) × Says (packOf (g .image)) f
@@ -191,7 +192,8 @@ module _ (g : Lending) (b : Begins g) (inside : allInside (extentOf (g .extent))
       track = T .track;
       place = T .place;
       there = rw at-is at track-there;
-      drive-at = at-is;
+      reached = T .reached;
+      reached-at = at-is;
       after-is = T .after-is;
       on-pack = rw (sym (y-says .at-track)) at (parts .0);
       below = T .below;

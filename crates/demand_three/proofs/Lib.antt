@@ -4,3 +4,4 @@ pub mod Mending
 pub mod DemandThree
 pub mod Reported
 pub mod Stopped
+pub mod Exception

@@ -1,11 +1,12 @@
--- Every cut of a reading that may begin is mended: closed where the faultless run ends there, restarted where it goes on.
+-- Every cut of a reading that may begin is mended: closed where the faultless run ends there, restarted where it goes on. A restart comes back to the
+-- chain, but where the chain's next command is an 86 or 8E that ends by a step, which the restart's 92 does before it.
 --   settled-ends, settled-goes   what a faultless read says by its answer
 --   areas-limit                  the command limit of a reading that may begin
 --   Good                         an end that is no program check
 --   Fine                         what holds before each command of the faultless run
 --   closes                       a cut where the faultless run ends
---   mends                        a cut where it goes on
-use Prim.Native.Nat.{ℕ, zero, suc, _+_, _%_, _≤_}
+--   goes-on                      a cut where it goes on
+use Prim.Native.Nat.{ℕ, zero, suc, _+_, _-_, _%_, _≤_}
 use native.Mathlib.Omega.{arith}
 use mathlib.Core.Path.{_≡_, refl, ap, sym, _∙_}
 use mathlib.Core.Bool.{Bool, true, false, _&&_, _||_, not}
@@ -17,7 +18,7 @@ use borrow.Author.Tests.{leb-true}
 use Rattle.base.specs.Choice.{pick, opt}
 use Rattle.base.specs.Bits.{bitOn}
 use Rattle.base.specs.Bytes.{two, three}
-use Rattle.base.proofs.Choice.{split, and-left, and-right, not-not}
+use Rattle.base.proofs.Choice.{split, and-left, and-right}
 use Rattle.questions.specs.Areas.{chainFits, argumentsFit, storageFits, imageFits, faultsFit, limitFits, runAreas, restartLimit}
 use Rattle.address.specs.declared.Address.{Address}
 use Rattle.address.specs.Within.{extentOf}
@@ -25,7 +26,7 @@ use Rattle.faults.specs.Faults.{Fault}
 use Rattle.abstract_machine.specs.Machine.{goes, ends, cuts, Result, ended, run}
 use Rattle.abstract_machine.specs.Reading.{finish, restart}
 use Rattle.abstract_machine.proofs.Run.{run-ends}
-use Rattle.abstract_machine.proofs.Whole.{Mended, Closed}
+use Rattle.abstract_machine.proofs.Whole.{Mended, Closed, Strayed, GoesOn, mended, strayed}
 use Rattle.channel.specs.declared.Ccw.{Ccw}
 use Rattle.channel.specs.declared.Location.{Location}
 use Rattle.channel.specs.declared.Location.the-variants.{Chain, Restart}
@@ -38,25 +39,31 @@ use Rattle.channel.proofs.InChain.{InChain, FetchedIn, next-in, resolve-in, res
 use Rattle.channel.proofs.Walks.{resolve-got}
 use Rattle.channel.proofs.Shown.{fetched-inside}
 use Rattle.drive.specs.declared.FileMask.{FileMask}
-use Rattle.drive.specs.declared.FileMask.the-variants.{Set}
+use Rattle.drive.specs.declared.FileMask.the-variants.{Unset, Set}
 use Rattle.drive.specs.Drive as Drive
 use Rattle.drive.specs.Drive.{Drive, addressBytes}
 use Rattle.drive.specs.Step as Step
 use Rattle.channel.specs.Csw.{cswAt}
-use Rattle.drive.specs.Step.{State, End, Cut, Answer, Setting, plan, step, noSense, lengthStatus, settled, faulted, onward, programCheck, settable}
+use Rattle.drive.specs.Step.{State, End, Cut, Answer, fails, answer, Setting, plan, step, noSense, lengthStatus, settled, faulted, onward, programCheck, settable}
 use Rattle.drive.specs.Run.{Limit, limitOf, runFrom, ticFirst}
 use Rattle.drive.proofs.Steps as Steps
 use Rattle.drive.proofs.Origin as Origin
+use Rattle.drive.specs.Command.{commandOf}
+use Rattle.drive.proofs.Multitrack.{refusedAt}
 use Rattle.drive.proofs.Local.{execute-local, run-joins}
-use Rattle.restart.specs.Restart.{ccwBytes, programOf, searchProgram, searchArguments, restartArgumentsOf, padded}
+use Rattle.restart.specs.declared.ReadCount.{ReadCount}
+use Rattle.restart.specs.declared.ReadCount.the-variants.{Omitted, Single, Multitrack}
+use Rattle.restart.specs.Restart.{countPlace, isMultitrackData, countFor, ccwBytes, programOf, searchProgram, searchArguments, restartArgumentsOf, padded}
 use Rattle.restart.proofs.Commands as Commands
-use Rattle.restart.proofs.Commands.{placed}
-use Rattle.restart.proofs.Reach.{Sought, Faultless, commands, commands-few, resumes}
+use Rattle.restart.proofs.Commands.{placed, ahead}
+use Rattle.restart.proofs.Join as Join
+use Rattle.restart.proofs.Join.{Counted, omitted, single, multitrack, counted, Found, Ahead, finds, ahead-of, execute-failed}
+use Rattle.restart.proofs.Reach.{Sought, Faultless, commands, commands-few, Before, searched, counted-on-track, counted-on, to-count-failed, resumes}
 use Rattle.recovery.specs.Table.{rows}
 use Rattle.recovery.specs.Recovery as Recovery
 use Rattle.recovery.specs.Recovery.{Given, fetchMode, onlyChain, seekAllowed, five, fiveA}
 use Rattle.demand_three.specs.WholeReading.{Restarted, entryOf, answered, recoverCut, restartedIn, restartedRun, final, givenIn}
-use Rattle.demand_three.specs.Demand.{Lending, settingOf, Begins, allInside, Named, recovered, SeeksInside}
+use Rattle.demand_three.specs.Demand.{Lending, settingOf, Begins, allInside, takesFaulted, isFailed, stepFails, endsByStep, atCount, Named, recovered, SeeksInside}
 use Rattle.demand_three.proofs.Genuine.{Genuine, cutAt, finishes, restarts-with}
 use Rattle.demand_three.proofs.Hits.{flag, Hit, hit}
 
@@ -91,6 +98,13 @@ module _ (bs : List ℕ) (d : Drive) (st : List ℕ) (ps : List (Option ℕ)) (z
       (λ q. let v : _≡_ {A = Answer} (ends (off (lengthStatus wrong))) (goes t) = rw q at (sym settled-is ∙ h) in let x : _≡_ {A = ℕ} 0 1 = cc in absurd (omega arith))
       (λ q. let v : _≡_ {A = Answer} (goes on) (goes t) = rw q at (sym settled-is ∙ h) in (q, (cc)))
 
+-- ---- the place of the read count
+
+count-place : (m : FileMask) → countPlace m ≡ Commands.countAt m
+unfolding countPlace
+count-place Unset = refl
+count-place (Set b) = refl
+
 -- ---- the lent areas
 
 module _ (chain arguments storage image faults limit : ℕ) (h : runAreas chain arguments storage image faults limit ≡ true) where
@@ -116,6 +130,18 @@ drive-is : (d e : Drive) (i : ℕ) (a : Address) → e ≡ Drive.movedPast d i f
 unfolding Drive.movedPast
 drive-is d e i a h q = rw (h, ← q) refl
 
+-- ---- the command that comes next, by its CCW and the drive before it
+
+module _ (w : Setting) (s : State) (l : Location) (c : Ccw) (d : Drive) (comes : resolve (w .lent) (s .last) (s .at) ≡ Got l c) (stands : s .drive ≡ d) where
+  plan-at : plan w s ≡ Step.execute w l c d (s .storage)
+  unfolding plan Step.dispatch
+  plan-at = rw (comes, stands)
+
+  -- whether it is one that ends by a step
+  marked-at : d .passed ≡ false → endsByStep w s ≡ (isMultitrackData (c .command) && isFailed (Step.readFrom (w .pack) 19 d))
+  unfolding endsByStep stepFails Step.takeFrom pick
+  marked-at h = rw (comes, stands, h)
+
 -- ---- readings
 
 -- "not by a program check"
@@ -132,7 +158,7 @@ ends-is q = cc
 pub ended-is : {a b : End} → _≡_ {A = Result Limit End Cut} (ended a) (ended b) → a ≡ b
 ended-is q = cc
 
-checked-channel : (l : Location) (d : Drive) (st : List ℕ) (e : End) → programCheck l d st ≡ ends e → e .csw .channel ≡ 0x20
+pub checked-channel : (l : Location) (d : Drive) (st : List ℕ) (e : End) → programCheck l d st ≡ ends e → e .csw .channel ≡ 0x20
 unfolding programCheck cswAt
 checked-channel l d st e h = let k : checkedAt l d st ≡ e = ends-is h in rw (← k) refl
 
@@ -224,8 +250,8 @@ module _ (g : Lending) (b : Begins g) (inside : allInside (extentOf (g .extent))
       m = H .t .after .mask
 
       module _ (more : (incorrectLength c left over || not (chainsCommand c)) ≡ false) (to : ℕ) (d : Ccw) (comes : resolve (w .lent) z (next z) ≡ Got (Chain to) d) where
-        abbrev counts : Bool
-        counts = not (bitOn 3 (d .command))
+        abbrev counts : ReadCount
+        counts = countFor (d .command)
 
         abbrev first : Restarted
         first = record { program = searchProgram m counts to; restartArguments = searchArguments (H .y .at) m 0 (H .y .r); storage = st }
@@ -262,13 +288,13 @@ module _ (g : Lending) (b : Begins g) (inside : allInside (extentOf (g .extent))
         faultless =
             let got = resolve-got (w .lent) z (next z) (Chain to) d comes in
             record {
-              drive = drive-is (s .drive) (H .t .after) (H .place) (H .y .at) (H .after-is) (H .drive-at);
+              drive = drive-is (H .reached) (H .t .after) (H .place) (H .y .at) (H .after-is) (H .reached-at);
               storage = refl;
               comes = comes;
               held = got .0;
               plain = got .1;
               in-chain = omega (arith, fetched-inside (w .lent) (Chain to) d (got .0), chain-short);
-              bit = not-not (bitOn 3 (d .command));
+              counted = refl;
             }
 
         may : (b : ℕ) → m ≡ Set b → settable b ≡ true
@@ -277,36 +303,89 @@ module _ (g : Lending) (b : Begins g) (inside : allInside (extentOf (g .extent))
         abbrev used : ℕ
         used = commands m counts (H .place)
 
-        reaches : (n : ℕ) → used + suc n ≡ restartLimit → restartedRun fs w first ≡ run faulty limitOf (suc n) behind
-        unfolding restartedRun restartedIn runFrom ticFirst isTic opt pick
-        reaches n e =
-            let r = resumes w (H .y .at) 0 (H .y .r) to st m counts (H .track) (H .place) d behind fs sought faultless
-            (λ x. execute-local w (first .program) (first .restartArguments) (Chain to) d x st tt) may (omega arith) n in
-            rw (Commands.fetches w (H .y .at) 0 (H .y .r) to m counts .seek, ← e)
-            (r .0 ∙ run-joins fs w (first .program) (first .restartArguments) n _ behind (r .1) (next-in z ends-in-chain))
+        -- with the drive x before the last TIC
+        module _ (x : Drive) (before : Before w (H .y .at) m (H .track) (H .place) counts x) where
+          comes-back : (n : ℕ) → used + suc n ≡ restartLimit → restartedRun fs w first ≡ run faulty limitOf (suc n) behind
+          unfolding restartedRun restartedIn runFrom ticFirst isTic opt pick
+          comes-back n e =
+              let r = resumes w (H .y .at) 0 (H .y .r) to st m counts (H .track) (H .place) d behind fs x before sought faultless
+              (λ y. execute-local w (first .program) (first .restartArguments) (Chain to) d y st tt) may (omega arith) n in
+              rw (Commands.fetches w (H .y .at) 0 (H .y .r) to m counts .seek, ← e)
+              (r .0 ∙ run-joins fs w (first .program) (first .restartArguments) n _ behind (r .1) (next-in z ends-in-chain))
 
-        mended-at : Mended faulty limitOf (restartedRun fs w) (recoverCut given) final recovered restartLimit 260 (SeeksInside (extentOf (g .extent))) h s behind
-        unfolding recovered entryOf searchProgram programOf searchArguments restartArgumentsOf padded ccwBytes addressBytes two three
-        mended-at = record {
-          report = cut-is;
-          entry = entryOf kind cut-is;
-          first = first;
-          used = used;
-          is-cut = is-cut;
-          built = rebuilt;
-          noted = sym (H .name-is);
-          few = omega (arith, commands-few m counts (H .place), H .below, H .few);
-          inside = record { track = H .y .at; seek = refl; argument = refl; on-pack = H .on-pack; inside = H .inside };
-          reaches = reaches;
-        }
+          mended-at : Mended faulty limitOf (restartedRun fs w) (recoverCut given) final recovered restartLimit 260 (SeeksInside (extentOf (g .extent))) h s behind
+          unfolding recovered entryOf searchProgram programOf searchArguments restartArgumentsOf padded ccwBytes addressBytes two three
+          mended-at = record {
+            report = cut-is;
+            entry = entryOf kind cut-is;
+            first = first;
+            used = used;
+            is-cut = is-cut;
+            built = rebuilt;
+            noted = sym (H .name-is);
+            few = omega (arith, commands-few m counts (H .place), H .below, H .few);
+            inside = record { track = H .y .at; seek = refl; argument = refl; on-pack = H .on-pack; inside = H .inside };
+            reaches = comes-back;
+          }
+
+        -- the drive behind the faultless read
+        abbrev after : Drive
+        after = placed (H .y .at) m (H .place + 1) false
+
+        plan-behind : plan w behind ≡ Step.execute w (Chain to) d after st
+        plan-behind = plan-at w behind (Chain to) d after comes (faultless .drive)
+
+        marked-is : endsByStep w behind ≡ (isMultitrackData (d .command) && isFailed (Step.readFrom (w .pack) 19 after))
+        marked-is = marked-at w behind (Chain to) d after comes (faultless .drive) refl
+
+        -- ---- where its 92 fails
+
+        module _ (x : Step.Check) (is : (p : Bool) → Step.readFrom (w .pack) 19 (placed (H .y .at) m (H .place + 1) p) ≡ fails x)
+            (this : isMultitrackData (d .command) ≡ true) (counts-is : counts ≡ Multitrack) where
+          -- so does the chain's command
+          abbrev end-there : End
+          end-there = refusedAt x (Chain to) d after st
+
+          plan-there : Step.sound (w .lent) (Chain to) (length st) d (commandOf (d .command)) ≡ true → plan w behind ≡ answer (ends end-there)
+          unfolding Step.refuse Step.refusal
+          plan-there ok = plan-behind ∙ execute-failed w (Chain to) d st (H .y .at) m (H .place + 1) x (is false) this ok
+
+          -- unless it makes a program check
+          checked-there : Step.sound (w .lent) (Chain to) (length st) d (commandOf (d .command)) ≡ false → clean behind ≡ ends (checkedAt (Chain to) after st)
+          unfolding step Step.carry Step.execute programCheck pick
+          checked-there bad = rw (plan-behind, bad)
+
+          strays : restartedRun fs w first ≡ ended (atCount end-there)
+          unfolding restartedRun restartedIn runFrom ticFirst isTic opt pick atCount cswAt
+          strays =
+              let n : ℕ = restartLimit - commands m Multitrack (H .place) in
+              let e : commands m Multitrack (H .place) + n ≡ restartLimit = omega (arith, commands-few m Multitrack (H .place), H .below, H .few) in
+              rw (counts-is, Commands.fetches w (H .y .at) 0 (H .y .r) to m Multitrack .seek, ← e, count-place m)
+              (to-count-failed fs w (H .y .at) 0 (H .y .r) to st m (H .track) (H .place) x (is true) sought may (omega arith) n)
+
+          strayed-at : Strayed faulty limitOf (restartedRun fs w) (recoverCut given) final recovered restartLimit 260 (SeeksInside (extentOf (g .extent))) h s (atCount end-there)
+          unfolding recovered entryOf searchProgram programOf searchArguments restartArgumentsOf padded ccwBytes addressBytes two three
+          strayed-at = record {
+            report = cut-is;
+            entry = entryOf kind cut-is;
+            first = first;
+            is-cut = is-cut;
+            built = rebuilt;
+            noted = sym (H .name-is);
+            inside = record { track = H .y .at; seek = refl; argument = refl; on-pack = H .on-pack; inside = H .inside };
+            comes = strays;
+          }
 
     -- ---- by the walk
 
     abbrev Closes : End → Type 0
     Closes e = Closed faulty limitOf (restartedRun fs w) (recoverCut given) final recovered restartLimit 260 (SeeksInside (extentOf (g .extent))) h s e
 
-    abbrev Mends : State → Type 0
-    Mends t = Mended faulty limitOf (restartedRun fs w) (recoverCut given) final recovered restartLimit 260 (SeeksInside (extentOf (g .extent))) h s t
+    -- what comes of a cut where the chain goes on at t, and ends with e
+    abbrev Goes : State → End → Type 0
+    Goes t e =
+        GoesOn faulty limitOf (restartedRun fs w) (recoverCut given) final recovered restartLimit 260 (SeeksInside (extentOf (g .extent)))
+        clean (flag fs w) (takesFaulted g) (endsByStep w) atCount h s t e (endsByStep w t)
 
     closes-hit : (e : End) → clean s ≡ ends e → Good e → Closes e
     unfolding settled
@@ -323,31 +402,76 @@ module _ (g : Lending) (b : Begins g) (inside : allInside (extentOf (g .extent))
     unfolding step Step.carry plan Step.dispatch programCheck
     breaks t l e = rw e
 
-    broken-end : (t : State) (l : Location) → resolve (w .lent) (t .last) (t .at) ≡ Broken l → (n : ℕ) (e : End) → run clean limitOf n t ≡ ended e → e .csw .channel ≡ 0x20
-    unfolding run cswAt
-    broken-end t l broken zero e q = let z : _≡_ {A = ℕ} 0 1 = cc in absurd (omega arith)
-    broken-end t l broken (suc n) e q = ended-check (run-ends clean limitOf n t _ (breaks t l broken)) q
-      where
-        ended-check : {r : Result Limit End Cut} → r ≡ ended (checkedAt l (t .drive) (t .storage)) → r ≡ ended e → e .csw .channel ≡ 0x20
-        ended-check u v = let k : checkedAt l (t .drive) (t .storage) ≡ e = ended-is (sym u ∙ v) in rw (← k) refl
+    -- what a run ends with whose first command ends it
+    ended-by : (t : State) (x : End) → clean t ≡ ends x → (n : ℕ) (e : End) → run clean limitOf n t ≡ ended e → x ≡ e
+    unfolding run
+    ended-by t x there zero e q = let z : _≡_ {A = ℕ} 0 1 = cc in absurd (omega arith)
+    ended-by t x there (suc n) e q = ended-is (sym (run-ends clean limitOf n t x there) ∙ q)
+
+    -- a good run does not end so
+    unchecked : {A : Type 0} (t : State) (l : Location) (d : Drive) (st : List ℕ) → clean t ≡ ends (checkedAt l d st) → (n : ℕ) (e : End) → run clean limitOf n t ≡ ended e → Good e → A
+    unfolding cswAt
+    unchecked t l d st there n e q good = absurd (good (rw (← (ended-by t (checkedAt l d st) there n e q)) refl))
 
     module _ (t : State) (q : clean s ≡ goes t) (n : ℕ) (e : End) (rest : run clean limitOf n t ≡ ended e) (good : Good e) where
       module _ (ps : List (Option ℕ)) (z : Location) (c : Ccw) (left : ℕ) (over : Bool) (u : H .t .walk ≡ walked ps z c left over) where
         parts : ((incorrectLength c left over || not (chainsCommand c)) ≡ false) × (behind ps z c left over u ≡ t)
         parts = settled-goes (H .t .bytes) (H .t .after) (s .storage) ps z c left over t (settles ps z c left over u q)
 
-        mends-next : (k : Fetched) → resolve (w .lent) z (next z) ≡ k → FetchedIn k → Mends t
-        mends-next (Got (Chain to) d) v i = rw (← (parts .1)) (mended-at ps z c left over u (parts .0) to d v)
-        mends-next (Got (Restart to) d) v i = absurd i
-        mends-next (Broken l) v i = absurd (good (broken-end (behind ps z c left over u) l v n e (rw (← (parts .1)) at rest)))
+        rest-is : run clean limitOf n (behind ps z c left over u) ≡ ended e
+        rest-is = rw (← (parts .1)) at rest
 
-      mends-hit : Mends t
+        module _ (to : ℕ) (d : Ccw) (v : resolve (w .lent) z (next z) ≡ Got (Chain to) d) where
+          abbrev here : State
+          here = behind ps z c left over u
+
+          unmarked : isMultitrackData (d .command) ≡ false → endsByStep w here ≡ false
+          unmarked h = marked-is ps z c left over u (parts .0) to d v ∙ rw h
+
+          mended-by : (x : Drive) → Before w (H .y .at) (H .t .after .mask) (H .track) (H .place) (countFor (d .command)) x → endsByStep w here ≡ false → Goes here e
+          mended-by x before off = rw off (mended (mended-at ps z c left over u (parts .0) to d v x before))
+
+          -- a record is ahead of an 86 or 8E
+          not-failed : isMultitrackData (d .command) ≡ true → Found (w .pack) (H .t .after .mask) 19 (H .y .at) (H .place + 1) → endsByStep w here ≡ false
+          unfolding isFailed
+          not-failed this f = marked-is ps z c left over u (parts .0) to d v ∙ rw (this, f .behind-record)
+
+          -- or none is
+          stray : isMultitrackData (d .command) ≡ true → countFor (d .command) ≡ Multitrack → (x : Step.Check)
+              → ((p : Bool) → Step.readFrom (w .pack) 19 (placed (H .y .at) (H .t .after .mask) (H .place + 1) p) ≡ fails x)
+              → Step.sound (w .lent) (Chain to) (length (here .storage)) d (commandOf (d .command)) ≡ true → Goes here e
+          unfolding isFailed step Step.carry flag Step.areaIn opt
+          stray this k x is ok =
+              let planned = plan-there ps z c left over u (parts .0) to d v x is this k ok in
+              let there : clean here ≡ ends (end-there ps z c left over u (parts .0) to d v x is this k) = ap (Step.carry [] (here .storage)) planned in
+              let same = ended-by here (end-there ps z c left over u (parts .0) to d v x is this k) there n e rest-is in
+              rw (marked-is ps z c left over u (parts .0) to d v, this, is false)
+              (strayed (rw (← same) there) (rw planned) (rw (← same) (strayed-at ps z c left over u (parts .0) to d v x is this k)))
+
+          by-count : (k : ReadCount) → countFor (d .command) ≡ k → Counted (d .command) k → Goes here e
+          by-count Omitted k (omitted bit other) = mended-by (placed (H .y .at) (H .t .after .mask) (H .place + 1) true) (rw k searched) (unmarked other)
+          by-count Single k (single bit other) = mended-by (placed (H .y .at) (H .t .after .mask) (ahead (H .track) (H .place + 1) + 1) true) (rw k counted-on-track) (unmarked other)
+          by-count Multitrack k (multitrack this) = by (ahead-of (w .pack) (H .t .after .mask) 19 (H .y .at) (H .place + 1))
+            where
+              by : Ahead (w .pack) (H .t .after .mask) 19 (H .y .at) (H .place + 1) → Goes here e
+              by (finds f) = mended-by (placed (f .at) (H .t .after .mask) (ahead (f .track) (f .place) + 1) true) (rw k (counted-on f)) (not-failed this f)
+              by (Join.ends x is) =
+                  split (Step.sound (w .lent) (Chain to) (length (here .storage)) d (commandOf (d .command)))
+                  (stray this k x is)
+                  (λ bad. unchecked here (Chain to) (after ps z c left over u (parts .0) to d v) (here .storage) (checked-there ps z c left over u (parts .0) to d v x is this k bad) n e rest-is good)
+
+        next-by : (k : Fetched) → resolve (w .lent) z (next z) ≡ k → FetchedIn k → Goes t e
+        next-by (Got (Chain to) d) v i = rw (← (parts .1)) (by-count to d v (countFor (d .command)) refl (counted (d .command)))
+        next-by (Got (Restart to) d) v i = absurd i
+        next-by (Broken l) v i = unchecked (behind ps z c left over u) l (H .t .after) (store ps (H .t .bytes) (s .storage)) (breaks (behind ps z c left over u) l v) n e rest-is good
+
+      goes-hit : Goes t e
       unfolding settled programCheck
-      mends-hit = by (H .t .walk) refl
+      goes-hit = by (H .t .walk) refl
         where
-          by : (v : Walk) → H .t .walk ≡ v → Mends t
+          by : (v : Walk) → H .t .walk ≡ v → Goes t e
           by (walked ps z c left over) u =
-              mends-next ps z c left over u (resolve (w .lent) z (next z)) refl (resolve-in (w .lent) z (next z) (next-in z (ends-in-chain ps z c left over u)))
+              next-by ps z c left over u (resolve (w .lent) z (next z)) refl (resolve-in (w .lent) z (next z) (next-in z (ends-in-chain ps z c left over u)))
           by (checked ps l) u =
               let v : _≡_ {A = Answer} (ends (checkedAt l (H .t .after) (store ps (H .t .bytes) (s .storage)))) (goes t) =
               sym (clean-is ∙ ap (settled (H .t .bytes) (H .t .after) (s .storage)) u) ∙ q in
@@ -357,6 +481,7 @@ module _ (g : Lending) (b : Begins g) (inside : allInside (extentOf (g .extent))
       → Closed faulty limitOf (restartedRun fs w) (recoverCut given) final recovered restartLimit 260 (SeeksInside (extentOf (g .extent))) h s e
   closes h s e fine f q good = closes-hit s fine h (hit g b inside s h f) e q good
 
-  pub mends : (h : Named) (s t : State) (n : ℕ) (e : End) → Fine s → flag fs w s ≡ some h → clean s ≡ goes t → run clean limitOf n t ≡ ended e → Good e
-      → Mended faulty limitOf (restartedRun fs w) (recoverCut given) final recovered restartLimit 260 (SeeksInside (extentOf (g .extent))) h s t
-  mends h s t n e fine f q rest good = mends-hit s fine h (hit g b inside s h f) t q n e rest good
+  pub goes-on : (h : Named) (s t : State) (n : ℕ) (e : End) → Fine s → flag fs w s ≡ some h → clean s ≡ goes t → run clean limitOf n t ≡ ended e → Good e
+      → GoesOn faulty limitOf (restartedRun fs w) (recoverCut given) final recovered restartLimit 260 (SeeksInside (extentOf (g .extent)))
+      clean (flag fs w) (takesFaulted g) (endsByStep w) atCount h s t e (endsByStep w t)
+  goes-on h s t n e fine f q rest good = goes-hit s fine h (hit g b inside s h f) t q n e rest good

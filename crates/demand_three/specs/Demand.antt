@@ -1,17 +1,21 @@
 -- DEMAND 3 of the contract with the user (docs/PROOFS.md, "The demands"): "For every chain, arguments, storage, image, fault list, extent and command limit
 -- that document 01 lets a reading begin with, and however often the faults cut the chain, the whole reading ends, neither as 'limit' nor as 'stopped'.
 -- Then storage, ending address, unit and channel status and remaining count equal those of the faultless run (same chain, same pack, no faults)."
+-- Document 02 adds: "only where the uncut one's last command is an 86 or 8E that ends with End of Cylinder, File Protected, or a step to a track that
+-- isn't in the image may address and count left be those of the restart's 92". Here they are, if and only if the command before that one reads a
+-- faulted data area.
 --   Begins        what document 01 lets a reading begin with
 --   Provided      "each faulted track lies in the extent, the faultless run sets no file mask in PCI fetch mode, and it ends within the chain's
 --                 command limit and not by a program check"
+--   endOf         what the faultless run ends with, or the same at the restart's 92
 --   LikeFaultless the conclusion
 use Prim.Native.Nat.{ℕ}
 use mathlib.Core.Path.{_≡_}
-use mathlib.Core.Bool.{Bool, true, false}
+use mathlib.Core.Bool.{Bool, true, false, _&&_}
 use mathlib.Core.Option.{some}
 use mathlib.Core.List.{List, [], _∷_, map}
 use lib.ListN.{length, take}
-use Rattle.base.specs.Choice.{pick}
+use Rattle.base.specs.Choice.{pick, opt}
 use Rattle.questions.specs.Areas.{runAreas}
 use Rattle.address.specs.declared.Address.{Address}
 use Rattle.address.specs.declared.Extent.{Extent}
@@ -20,14 +24,17 @@ use Rattle.address.specs.Within.{extentOf, within, soundExtent}
 use Rattle.pack.specs.Pack.{packOf}
 use Rattle.image.specs.Image.{wellFormed}
 use Rattle.faults.specs.Faults.{Fault, faultsAt, soundFaults}
-use Rattle.abstract_machine.specs.Machine.{ended, notes, Along}
+use Rattle.abstract_machine.specs.Machine.{ended, notes, Along, endsBehind}
 use Rattle.abstract_machine.specs.Reading.{ends}
-use Rattle.channel.specs.declared.Location.the-variants.{Chain}
-use Rattle.channel.specs.Csw.{programCheckStatus}
-use Rattle.drive.specs.Drive.{addressBytes}
-use Rattle.drive.specs.Step.{End, Setting, plan, step, Area, areaIn}
+use Rattle.channel.specs.declared.Location.the-variants.{Chain, Restart}
+use Rattle.channel.specs.declared.Fetched.{Fetched}
+use Rattle.channel.specs.declared.Fetched.the-variants.{Got, Broken}
+use Rattle.channel.specs.Ccw.{resolve}
+use Rattle.channel.specs.Csw.{cswAt, programCheckStatus}
+use Rattle.drive.specs.Drive.{Drive, addressBytes}
+use Rattle.drive.specs.Step.{State, End, Reached, reaches, fails, takeFrom, Setting, plan, step, Area, areaIn}
 use Rattle.drive.specs.Run.{start, runFrom}
-use Rattle.restart.specs.Restart.{ccwBytes}
+use Rattle.restart.specs.Restart.{ccwBytes, countPlace, isMultitrackData}
 use Rattle.recovery.specs.Table.{rows}
 use Rattle.recovery.specs.Recovery.{fetchMode}
 use Rattle.demand_three.specs.WholeReading.{Entry, Restarted, final, wholeReading}
@@ -76,6 +83,40 @@ pub record Provided (g : Lending) (e : End) : Type 0 where
   -- it "sets no file mask in PCI fetch mode": before none of its commands is such a mask set
   pub unfetched : Along (step [] (settingOf g)) (λ s. fetchMode (s .drive .mask) ≡ false) (g .limit) (start (Chain 0) (g .storage))
 
+-- ---- the exception
+
+-- whether a command reads a faulted data area
+unfoldable pub takesFaulted : Lending → State → Bool
+takesFaulted g s = opt (areaIn (g .faults) (plan (settingOf g) s)) false (λ a. a .faulted)
+
+-- whether a multitrack command ends on the way to what it reads
+unfoldable pub isFailed : Reached → Bool
+isFailed (reaches d) = false
+isFailed (fails k) = true
+
+-- "an 86 or 8E that ends with End of Cylinder, File Protected, or a step to a track that isn't in the image". Right behind a read the drive's own
+-- track is in the image, so that it is a step that fails.
+unfoldable pub stepFails : Setting → Drive → Fetched → Bool
+stepFails w d (Broken l) = false
+stepFails w d (Got l c) = isMultitrackData (c .command) && isFailed (takeFrom (w .pack) true d)
+
+-- whether the command that comes next is such a one
+unfoldable pub endsByStep : Setting → State → Bool
+endsByStep w s = stepFails w (s .drive) (resolve (w .lent) (s .last) (s .at))
+
+-- whether the faultless run's last command is such a one, and the command before it reads a faulted data area
+unfoldable pub endsAtCount : Lending → Bool
+endsAtCount g = endsBehind (step [] (settingOf g)) (takesFaulted g) (endsByStep (settingOf g)) false (g .limit) (start (Chain 0) (g .storage))
+
+-- "address and count left be those of the restart's 92", which moves nothing of its 8
+unfoldable pub atCount : End → End
+atCount e =
+    record { csw = cswAt (Restart (countPlace (e .mask))) (e .csw .unit) (e .csw .channel) 8; sense = e .sense; mask = e .mask; storage = e .storage }
+
+-- what the reading ends with, where the faultless run ends with e
+unfoldable pub endOf : Lending → End → End
+endOf g e = pick (endsAtCount g) (atCount e) e
+
 -- ---- the conclusion
 
 -- a record by its track and number
@@ -87,7 +128,8 @@ pub record Named : Type 0 where
 unfoldable pub recovered : Entry → Named
 recovered t = record { at = t .at; r = t .r }
 
--- "it reads a faulted data area each time a 06, 0E or 1E takes a record that the list names, even if it stores no byte"
+-- "it reads a faulted data area each time a 06, 0E or 1E takes a record that the list names, even if it stores no byte"; "so does demand 3's
+-- count of faulted data areas" with 86, 8E and 9E
 unfoldable pub faultedOnes : List Area → List Named
 faultedOnes [] = []
 faultedOnes (a ∷ rest) = pick (a .faulted) (record { at = a .at; r = a .r } ∷ faultedOnes rest) (faultedOnes rest)
@@ -114,8 +156,9 @@ EachInside x (r ∷ rs) = SeeksInside x r × EachInside x rs
 pub record LikeFaultless (g : Lending) (e : End) : Type 0 where
   pub made : List Entry
   pub built : List Restarted
-  -- it ends, neither as "limit" nor as "stopped", with the same CSW and storage
-  pub same-end : wholeReading (g .faults) (settingOf g) rows (extentOf (g .extent)) (g .limit) (g .storage) ≡ ends (record { made = made; built = built }) (final e)
+  -- it ends, neither as "limit" nor as "stopped", with the same CSW and storage, but for the exception
+  pub same-end : wholeReading (g .faults) (settingOf g) rows (extentOf (g .extent)) (g .limit) (g .storage)
+      ≡ ends (record { made = made; built = built }) (final (endOf g e))
   -- its recoveries are the faulted data areas that the faultless run reads, "one for each time"
   pub same-areas : map recovered made ≡ faultedAreas g
   -- "no restart's own seek lies outside the extent"

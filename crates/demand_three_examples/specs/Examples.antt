@@ -1,8 +1,10 @@
--- Demand 3 is not empty: document 01's worked example meets its conditions, with the one fault that it has, and with a second one.
---   worked            the lent areas of the example, with a list of faults
---   workedEnd         the end of the faultless run, which is the same with every list
---   oneCut, twoCuts   the faults, and what the readings with them do
---   Instance          the reading with these faults meets the conditions of demand 3, and does so
+-- Demand 3 is not empty: readings that meet its conditions. Document 01's worked example, with the one fault that it has and with a second one; a chain of
+-- 86 that goes on to the next head, with a fault on each; and the same with one 86 more, which ends by a step right behind a faulted read.
+--   worked, overHeads   the lent areas, with a list of faults
+--   Example             faults and areas, the end of the faultless run, and what the reading does
+--   oneCut, twoCuts     the worked example
+--   twoHeads, pastHeads the chains over two heads
+--   Instance            the reading meets the conditions of demand 3, and does so
 use Prim.Native.Nat.{ℕ}
 use mathlib.Core.Path.{_≡_}
 use mathlib.Core.List.{List, [], _∷_, _++_, map}
@@ -12,96 +14,150 @@ use Rattle.address.specs.declared.Address.{Address}
 use Rattle.faults.specs.Faults.{Fault}
 use Rattle.drive.specs.declared.FileMask.the-variants.{Unset}
 use Rattle.drive.specs.Drive.{addressBytes}
-use Rattle.drive.specs.Step.{End}
+use Rattle.channel.specs.declared.Csw.{Csw}
+use Rattle.drive.specs.Step.{End, noSense, notFound, checkSense}
 use Rattle.recovery.specs.Recovery.{Kind, five, fiveA}
 use Rattle.demand_three.specs.WholeReading.{Entry}
-use Rattle.demand_three.specs.Demand.{Lending, Begins, Provided, recovered, faultedAreas, LikeFaultless}
+use Rattle.demand_three.specs.Demand.{Lending, Begins, Provided, endOf, recovered, faultedAreas, LikeFaultless}
 
 -- ---- the lent areas
 
--- seek, search ID equal, TIC to the search, and two 06
-unfoldable pub chain : List ℕ
-chain =
-    (0x07 ∷ 0 ∷ 0 ∷ 0 ∷ 0x40 ∷ 0 ∷ 0 ∷ 6 ∷ []) ++ (0x31 ∷ 0 ∷ 0 ∷ 6 ∷ 0x40 ∷ 0 ∷ 0 ∷ 5 ∷ []) ++ (0x08 ∷ 0 ∷ 0 ∷ 8 ∷ 0 ∷ 0 ∷ 0 ∷ 0 ∷ [])
-    ++ (0x06 ∷ 0 ∷ 0 ∷ 0 ∷ 0x40 ∷ 0 ∷ 0 ∷ 4 ∷ []) ++ (0x06 ∷ 0 ∷ 0 ∷ 4 ∷ 0 ∷ 0 ∷ 0 ∷ 4 ∷ [])
+-- seek, search ID equal, TIC to the search
+unfoldable pub finding : List ℕ
+finding = (0x07 ∷ 0 ∷ 0 ∷ 0 ∷ 0x40 ∷ 0 ∷ 0 ∷ 6 ∷ []) ++ (0x31 ∷ 0 ∷ 0 ∷ 6 ∷ 0x40 ∷ 0 ∷ 0 ∷ 5 ∷ []) ++ (0x08 ∷ 0 ∷ 0 ∷ 8 ∷ 0 ∷ 0 ∷ 0 ∷ 0 ∷ [])
+
+-- a read of four bytes to a place, with these flags
+unfoldable pub reading : (command place flags : ℕ) → List ℕ
+reading command place flags = command ∷ 0 ∷ 0 ∷ place ∷ flags ∷ 0 ∷ 0 ∷ 4 ∷ []
 
 -- the seek address, then the ID of R1
 unfoldable pub arguments : List ℕ
 arguments = (0 ∷ 0 ∷ 0 ∷ 0 ∷ 0 ∷ 1 ∷ []) ++ (0 ∷ 0 ∷ 0 ∷ 1 ∷ 1 ∷ [])
 
--- the home address of track 000/01, then R0, R1 and R2
-unfoldable pub image : List ℕ
-image =
-    (0x01 ∷ 0 ∷ 5 ∷ 0 ∷ 0 ∷ 0 ∷ 0 ∷ 1 ∷ []) ++ (0x02 ∷ 0 ∷ 16 ∷ 0 ∷ 0 ∷ 0 ∷ 1 ∷ 0 ∷ 0 ∷ 0 ∷ 8 ∷ replicate 8 0)
-    ++ (0x02 ∷ 0 ∷ 12 ∷ 0 ∷ 0 ∷ 0 ∷ 1 ∷ 1 ∷ 0 ∷ 0 ∷ 4 ∷ 0xc1 ∷ 0xc2 ∷ 0xc3 ∷ 0xc4 ∷ [])
-    ++ (0x02 ∷ 0 ∷ 12 ∷ 0 ∷ 0 ∷ 0 ∷ 1 ∷ 2 ∷ 0 ∷ 0 ∷ 4 ∷ 0xd1 ∷ 0xd2 ∷ 0xd3 ∷ 0xd4 ∷ [])
+-- the home address of cylinder 0 with this head, then its R0
+unfoldable pub begun : ℕ → List ℕ
+begun head = (0x01 ∷ 0 ∷ 5 ∷ 0 ∷ 0 ∷ 0 ∷ 0 ∷ head ∷ []) ++ (0x02 ∷ 0 ∷ 16 ∷ 0 ∷ 0 ∷ 0 ∷ head ∷ 0 ∷ 0 ∷ 0 ∷ 8 ∷ replicate 8 0)
 
--- that track
-abbrev pub track : Address
-track = record { cylinder = 0; head = 1 }
+-- a record of four bytes on that track
+unfoldable pub recorded : (head r : ℕ) → List ℕ → List ℕ
+recorded head r body = 0x02 ∷ 0 ∷ 12 ∷ 0 ∷ 0 ∷ 0 ∷ head ∷ r ∷ 0 ∷ 0 ∷ 4 ∷ body
+
+-- the data of the two records
+unfoldable pub firstBody : List ℕ
+firstBody = 0xc1 ∷ 0xc2 ∷ 0xc3 ∷ 0xc4 ∷ []
+
+-- of the second one
+unfoldable pub secondBody : List ℕ
+secondBody = 0xd1 ∷ 0xd2 ∷ 0xd3 ∷ 0xd4 ∷ []
+
+-- the track of cylinder 0 with this head
+abbrev pub track : ℕ → Address
+track head = record { cylinder = 0; head = head }
 
 -- "20 (10: cylinder 2, head 2, R from 1, error displacement 2, pattern 3)"
 unfoldable pub faultFields : List Fault → List ℕ
 faultFields [] = []
 faultFields (f ∷ fs) = 0x20 ∷ 0 ∷ 10 ∷ addressBytes (f .at) ++ f .r ∷ two (f .displacement) ++ f .pattern ++ faultFields fs
 
--- the example with these faults; the extent is its track
-unfoldable pub worked : List Fault → Lending
-worked fs = record {
-  chain = chain;
+-- reads behind the search, on an image, with these faults; the extent is from 000/01 to the last head
+unfoldable pub lending : (reads image : List ℕ) (last : ℕ) → List Fault → Lending
+lending reads image last fs = record {
+  chain = finding ++ reads;
   arguments = arguments;
   storage = replicate 4096 0;
   image = image;
   faultList = faultFields fs;
   faults = fs;
-  extent = addressBytes track ++ addressBytes track;
+  extent = addressBytes (track 1) ++ addressBytes (track last);
   limit = 4096;
 }
 
--- R1, displacement 3, pattern 000100
-unfoldable pub firstFault : Fault
-firstFault = record { at = track; r = 1; displacement = 3; pattern = 0 ∷ 1 ∷ 0 ∷ [] }
+-- document 01's example: two 06, and R1 and R2 on one track
+unfoldable pub worked : List Fault → Lending
+worked = lending (reading 0x06 0 0x40 ++ reading 0x06 4 0) (begun 1 ++ recorded 1 1 firstBody ++ recorded 1 2 secondBody) 1
 
--- R2, displacement 2, pattern 8001FF, whose last byte lies behind the data area
-unfoldable pub secondFault : Fault
-secondFault = record { at = track; r = 2; displacement = 2; pattern = 0x80 ∷ 1 ∷ 0xff ∷ [] }
+-- 86 in their place, and R1 on each of two heads
+unfoldable pub overHeads : (reads : List ℕ) → List Fault → Lending
+overHeads reads = lending reads (begun 1 ++ recorded 1 1 firstBody ++ begun 2 ++ recorded 2 1 secondBody) 2
+
+-- the first record: displacement 3, pattern 000100
+unfoldable pub firstFault : Fault
+firstFault = record { at = track 1; r = 1; displacement = 3; pattern = 0 ∷ 1 ∷ 0 ∷ [] }
+
+-- the second one: displacement 2, pattern 8001FF, whose last byte lies behind the data area
+unfoldable pub secondFault : (head r : ℕ) → Fault
+secondFault head r = record { at = track head; r = r; displacement = 2; pattern = 0x80 ∷ 1 ∷ 0xff ∷ [] }
 
 -- ---- what the readings come to
 
--- the end of the faultless run: both records in storage
-unfoldable pub workedEnd : End
-workedEnd = record {
-  csw = record { address = 0x28; unit = 0x0c; channel = 0; count = 0 };
-  sense = replicate 24 0;
-  mask = Unset;
-  storage = 0xc1 ∷ 0xc2 ∷ 0xc3 ∷ 0xc4 ∷ 0xd1 ∷ 0xd2 ∷ 0xd3 ∷ 0xd4 ∷ replicate 4088 0;
-}
+-- an end with both records in storage
+unfoldable pub endWith : Csw → List ℕ → End
+endWith w sense = record { csw = w; sense = sense; mask = Unset; storage = firstBody ++ secondBody ++ replicate 4088 0 }
 
--- a recovery of a record of the track
-abbrev pub entry : Kind → ℕ → Entry
-entry kind r = record { kind = kind; at = track; r = r }
+-- the CSW at the end of the last read
+unfoldable pub lastRead : Csw
+lastRead = record { address = 0x28; unit = 0x0c; channel = 0; count = 0 }
 
--- Faults, and what the reading with them does: its recoveries, and how many restarts it builds.
+-- a recovery of a record
+abbrev pub entry : Kind → (head r : ℕ) → Entry
+entry kind head r = record { kind = kind; at = track head; r = r }
+
+-- The lent areas, the end of the faultless run, and what the reading does: its recoveries, how many restarts it builds, and its CSW.
 pub record Example : Type 0 where
-  pub faults : List Fault
+  pub lent : Lending
+  pub faultless : End
   pub made : List Entry
   pub restarts : ℕ
+  pub csw : Csw
 
 -- document 01's example: one recovery, by a restart (5A)
 unfoldable pub oneCut : Example
-oneCut = record { faults = firstFault ∷ []; made = entry fiveA 1 ∷ []; restarts = 1 }
+oneCut = record {
+  lent = worked (firstFault ∷ []);
+  faultless = endWith lastRead noSense;
+  made = entry fiveA 1 1 ∷ [];
+  restarts = 1;
+  csw = lastRead;
+}
 
 -- with the second fault: two recoveries but one restart, as the second cut, at the last 06, is finished
 unfoldable pub twoCuts : Example
-twoCuts = record { faults = firstFault ∷ secondFault ∷ []; made = entry fiveA 1 ∷ entry five 2 ∷ []; restarts = 1 }
+twoCuts = record {
+  lent = worked (firstFault ∷ secondFault 1 2 ∷ []);
+  faultless = endWith lastRead noSense;
+  made = entry fiveA 1 1 ∷ entry five 1 2 ∷ [];
+  restarts = 1;
+  csw = lastRead;
+}
 
--- The reading with these faults meets the conditions of demand 3.
+-- over two heads: the 92 of the first restart steps, and the second cut, on the next head, is finished
+unfoldable pub twoHeads : Example
+twoHeads = record {
+  lent = overHeads (reading 0x86 0 0x40 ++ reading 0x86 4 0) (firstFault ∷ secondFault 2 1 ∷ []);
+  faultless = endWith lastRead noSense;
+  made = entry fiveA 1 1 ∷ entry five 2 1 ∷ [];
+  restarts = 1;
+  csw = lastRead;
+}
+
+-- with a third 86, whose step comes to no track: the 92 of the second restart ends the reading
+unfoldable pub pastHeads : Example
+pastHeads = record {
+  lent = overHeads (reading 0x86 0 0x40 ++ reading 0x86 4 0x40 ++ reading 0x86 8 0) (firstFault ∷ secondFault 2 1 ∷ []);
+  faultless = endWith (record { address = 0x30; unit = 0x0e; channel = 0; count = 4 }) (checkSense notFound);
+  made = entry fiveA 1 1 ∷ entry fiveA 2 1 ∷ [];
+  restarts = 2;
+  csw = record { address = 0x1028; unit = 0x0e; channel = 0; count = 8 };
+}
+
+-- The reading meets the conditions of demand 3.
 pub record Instance (x : Example) : Type 0 where
-  pub begins : Begins (worked (x .faults))
-  pub provided : Provided (worked (x .faults)) workedEnd
+  pub begins : Begins (x .lent)
+  pub provided : Provided (x .lent) (x .faultless)
   -- the faulted data areas that the faultless run reads are those of the recoveries
-  pub areas : faultedAreas (worked (x .faults)) ≡ map recovered (x .made)
-  -- so it ends like the faultless run, with these recoveries and so many restarts
-  pub like : LikeFaultless (worked (x .faults)) workedEnd
+  pub areas : faultedAreas (x .lent) ≡ map recovered (x .made)
+  -- so it ends like the faultless run, with these recoveries, so many restarts and this CSW
+  pub like : LikeFaultless (x .lent) (x .faultless)
   pub recoveries : like .made ≡ x .made
   pub restarts : length (like .built) ≡ x .restarts
+  pub shows : endOf (x .lent) (x .faultless) .csw ≡ x .csw

@@ -1,5 +1,5 @@
 -- Command codes, and what the code answers about a CCW's argument, from the tests that it makes.
---   unlisted                       a code that is none of the ten
+--   unlisted                       a code that is none of the fifteen
 --   chain-inside .. restart-high   whether an argument is inside its area
 --   unargued, argued               and whether the CCW is formed besides
 --   chain-ends, restart-ends       where an argument that is inside ends
@@ -33,10 +33,27 @@ other x k h = ne-eqb k x (λ e. h (sym e))
 
 pub unlisted : (x : ℕ) → (x ≡ 0x03 → ⊥) → (x ≡ 0x07 → ⊥) → (x ≡ 0x1f → ⊥) → (x ≡ 0x23 → ⊥) → (x ≡ 0x31 → ⊥)
     → (x ≡ 0x06 → ⊥) → (x ≡ 0x0e → ⊥) → (x ≡ 0x12 → ⊥) → (x ≡ 0x1e → ⊥) → (x ≡ 0x1a → ⊥)
+    → (x ≡ 0xb1 → ⊥) → (x ≡ 0x86 → ⊥) → (x ≡ 0x8e → ⊥) → (x ≡ 0x92 → ⊥) → (x ≡ 0x9e → ⊥)
     → Unlisted ≡ commandOf x
 unfolding commandOf lookUp codes pick
-unlisted x a b c d e f g h i j =
-    rw (other x _ a, other x _ b, other x _ c, other x _ d, other x _ e, other x _ f, other x _ g, other x _ h, other x _ i, other x _ j)
+unlisted x a b c d e f g h i j k l m n o =
+    rw (
+      other x _ a,
+      other x _ b,
+      other x _ c,
+      other x _ d,
+      other x _ e,
+      other x _ f,
+      other x _ g,
+      other x _ h,
+      other x _ i,
+      other x _ j,
+      other x _ k,
+      other x _ l,
+      other x _ m,
+      other x _ n,
+      other x _ o,
+    )
 
 -- ---- whether an argument is inside its area
 

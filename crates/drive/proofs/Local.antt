@@ -19,13 +19,15 @@ use Rattle.channel.specs.declared.Fetched.{Fetched}
 use Rattle.channel.specs.declared.Fetched.the-variants.{Got, Broken}
 use Rattle.channel.specs.Ccw.{Lent}
 use Rattle.channel.proofs.InChain.{InChain, FetchedIn, resolve-in, withRestart, resolve-local, walk-local, argument-local, argumentInside-local}
+use Rattle.drive.specs.declared.Read.{Read}
 use Rattle.drive.specs.declared.Command.{Command}
-use Rattle.drive.specs.declared.Command.the-variants.{NoOperation, Seek, SetMask, SetSector, SearchId, ReadHome, ReadRecord, Unlisted}
+use Rattle.drive.specs.declared.Command.the-variants.{NoOperation, Seek, SetMask, SetSector, SearchId, ReadHome, ReadRecord, SearchIdMultitrack, ReadMultitrack, Unlisted}
 use Rattle.drive.specs.Drive.{Drive}
 use Rattle.drive.specs.Command.{commandOf}
 use Rattle.drive.specs.Run.{limitOf}
 use Rattle.drive.specs.Step as Step
 use Rattle.drive.specs.Step.{State, Answer, DataArea, Setting}
+use Rattle.drive.proofs.Multitrack.{reached-same}
 use Rattle.drive.proofs.Origin.{step-stays}
 
 abbrev pub withProgram : Setting → List ℕ → List ℕ → Setting
@@ -48,22 +50,31 @@ module _ (w : Setting) (program arguments : List ℕ) where
   sound-local l size c SearchId h = rw (argumentInside-local p program arguments l c h)
   sound-local l size c ReadHome h = refl
   sound-local l size c (ReadRecord k) h = refl
+  sound-local l size c SearchIdMultitrack h = rw (argumentInside-local p program arguments l c h)
+  sound-local l size c (ReadMultitrack k) h = refl
 
   module _ (l : Location) (c : Ccw) (d : Drive) (st : List ℕ) (h : InChain l) where
     transfer-local : (bs : List ℕ) (a : DataArea) (e : Drive) → Step.planTransfer l c d st q bs a e ≡ Step.planTransfer l c d st p bs a e
     unfolding Step.planTransfer
     transfer-local bs a e = rw (walk-local p program arguments (length st) (length bs) l c (c .count) (c .address) h)
 
+    read-local : (k : Read) → Step.planRead l c d st (w .pack) q k ≡ Step.planRead l c d st (w .pack) p k
+    unfolding Step.planRead Step.planPlace Step.planRecord
+    read-local k = found _ refl (λ t. choose _ (transfer-local _ _ _) refl)
+
+  module _ (l : Location) (c : Ccw) (d : Drive) (st : List ℕ) (h : InChain l) where
     perform-local : (k : Command) → Step.perform (withProgram w program arguments) l c d st k ≡ Step.perform w l c d st k
-    unfolding Step.perform Step.planHome Step.planRead Step.planPlace Step.planRecord
+    unfolding Step.perform Step.planHome Step.planReadMultitrack
     perform-local NoOperation = refl
     perform-local Unlisted = refl
     perform-local Seek = rw (argument-local p program arguments l c h)
     perform-local SetMask = rw (argument-local p program arguments l c h)
     perform-local SetSector = rw (argument-local p program arguments l c h)
     perform-local SearchId = rw (argument-local p program arguments l c h)
-    perform-local ReadHome = found _ refl (λ t. transfer-local _ _ _)
-    perform-local (ReadRecord k) = found _ refl (λ t. choose _ (transfer-local _ _ _) refl)
+    perform-local ReadHome = found _ refl (λ t. transfer-local l c d st h _ _ _)
+    perform-local (ReadRecord k) = read-local l c d st h k
+    perform-local SearchIdMultitrack = rw (argument-local p program arguments l c h)
+    perform-local (ReadMultitrack k) = reached-same _ _ (λ e. read-local l c e st h k)
 
     pub execute-local : Step.execute (withProgram w program arguments) l c d st ≡ Step.execute w l c d st
     unfolding Step.execute

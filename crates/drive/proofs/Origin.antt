@@ -1,5 +1,6 @@
 -- What a command's plan is made of, and where the command leads: one pass over the definition of a command.
 --   legal, legal-set    a mask that a set mask command may have set
+--   Reads               the read that a command makes, on one track or over several
 --   Taken               the record that a read of a data area takes, with its track and place, the read's bytes and the drive behind it
 --   From                a read's first CCW and walk, and `Taken` if it takes a data area
 --   AnswerFrom          an answer that is no cut: a chain that goes on stays in the chain and keeps a legal mask
@@ -40,12 +41,13 @@ use Rattle.channel.proofs.InChain.{InChain, WalkIn, next-in, resolve-in, walk-i
 use Rattle.channel.proofs.Walks.{Short, walk-places, resolve-got}
 use Rattle.drive.specs.declared.Read.{Read}
 use Rattle.drive.specs.declared.Command.{Command}
-use Rattle.drive.specs.declared.Command.the-variants.{NoOperation, Seek, SetMask, SetSector, SearchId, ReadHome, ReadRecord, Unlisted}
+use Rattle.drive.specs.declared.Command.the-variants.{NoOperation, Seek, SetMask, SetSector, SearchId, ReadHome, ReadRecord, SearchIdMultitrack, ReadMultitrack, Unlisted}
 use Rattle.drive.specs.declared.FileMask.{FileMask}
 use Rattle.drive.specs.declared.FileMask.the-variants.{Unset, Set}
 use Rattle.drive.specs.Drive.{Drive, atIndex, movedPast, taken, addressBytes, identifier, countArea, noRecord}
 use Rattle.drive.specs.Command.{commandOf}
 use Rattle.drive.specs.Step as Step
+use Rattle.drive.proofs.Multitrack.{reached-by, Masked, masked-is, search-masked, take-masked}
 use Rattle.drive.specs.Step.{State, Cut, End, Answer, DataArea, nothing, empty, dataOf, Transfer, Plan, answer, moves, Setting}
 
 -- ---- how many bytes a read has
@@ -82,19 +84,27 @@ legal (Set m) = Step.settable m ≡ true
 pub legal-set : (m : FileMask) → legal m → (b : ℕ) → m ≡ Set b → Step.settable b ≡ true
 legal-set m h b e = rw e at h
 
--- A read of a data area by the CCW c: the record x that it takes, its bytes, and the drive behind it.
+-- a command that reads records, on one track or over several
+pub data Reads : Command → Read → Type 0 where
+  on-track : {k : Read} → Reads (ReadRecord k) k
+  multitrack : {k : Read} → Reads (ReadMultitrack k) k
+
+-- A read of a data area by the CCW c: the record x that it takes, its bytes, and the drive behind it. The drive `reached` is the one from which it
+-- takes the record: that of s, or one at the index of a head behind.
 pub record Taken (w : Setting) (s : State) (c : Ccw) (x : Record) (bytes : List ℕ) (after : Drive) : Type 0 where
   pub kind : Read
   pub track : Track
   pub place : ℕ
-  pub command-is : commandOf (c .command) ≡ ReadRecord kind
+  pub reached : Drive
+  pub command-is : Reads (commandOf (c .command)) kind
   pub takes-data : kind .datas ≡ true
-  pub track-is : trackIn (w .pack) (s .drive .at) ≡ some track
-  pub place-is : place ≡ taken (kind .just) (s .drive) (length (track .records))
+  pub mask-same : reached .mask ≡ s .drive .mask
+  pub track-is : trackIn (w .pack) (reached .at) ≡ some track
+  pub place-is : place ≡ taken (kind .just) reached (length (track .records))
   pub below : place < length (track .records)
   pub record-is : getD (track .records) place noRecord ≡ x
   pub bytes-are : bytes ≡ Step.bytesOf kind x
-  pub after-is : after ≡ movedPast (s .drive) place false 0
+  pub after-is : after ≡ movedPast reached place false 0
   pub body-some : 0 < length (x .body)
   pub body-in : length (x .body) ≤ length bytes
   pub bytes-few : length bytes ≤ 8 + length (x .key) + length (x .body)
@@ -142,9 +152,12 @@ module _ (w : Setting) (s : State) (l : Location) (c : Ccw) (got : resolve (w .l
   here : InChain (s .at) → InChain l
   here h = rw got at (resolve-in (w .lent) (s .last) (s .at) h)
 
-  no : (k : Step.Check) → P (Step.refuse l c d st k)
+  no-from : (e : Drive) (k : Step.Check) → P (Step.refuse l c e st k)
   unfolding Step.refuse Step.refusal
-  no k = answer-from ends-from
+  no-from e k = answer-from ends-from
+
+  no : (k : Step.Check) → P (Step.refuse l c d st k)
+  no = no-from d
 
   onward-from : (to : Location) (left : ℕ) (e : Drive) → (InChain (s .at) → InChain to) → (legal (d .mask) → legal (e .mask)) → P (answer (Step.onward l to c left e st))
   unfolding Step.onward
@@ -175,11 +188,17 @@ module _ (w : Setting) (s : State) (l : Location) (c : Ccw) (got : resolve (w .l
   unfolding Step.planSector atIndex
   sector-from n = both P _ (on _ (λ g. g)) (no Step.rejected)
 
-  search-from : (g : List ℕ) → P (Step.planSearch l c d st (w .pack) g)
+  -- a search from a drive with the mask of s
+  search-from : (e : Drive) → e .mask ≡ d .mask → (g : List ℕ) → P (Step.planSearch l c e st (w .pack) g)
   unfolding Step.planSearch Step.examine Step.done movedPast
-  search-from g =
-      either P _ (no Step.notFound) (λ t. both P _ (no Step.notFound)
-      (both P _ (onward-from (next (next l)) 0 _ (λ h. next-in _ (next-in l (here h))) (λ m. m)) (onward-from (next l) 0 _ (λ h. next-in l (here h)) (λ m. m))))
+  search-from e same g =
+      either P _ (no-from e Step.notFound) (λ t. both P _ (no-from e Step.notFound)
+      (both P _ (onward-from (next (next l)) 0 _ (λ h. next-in _ (next-in l (here h))) (λ m. rw same m)) (onward-from (next l) 0 _ (λ h. next-in l (here h)) (λ m. rw same m))))
+
+  -- a multitrack command, if it is made from each drive with that mask
+  multitrack-from : (r : Step.Reached) → Masked d r → {f : Drive → Plan} → ((e : Drive) → e .mask ≡ d .mask → P (f e))
+      → P (Step.onReached r (Step.refuse l c d st) f)
+  multitrack-from r h from = reached-by P r (λ k q. no k) (λ e q. from e (masked-is d e r h q))
 
   -- reads
 
@@ -193,48 +212,54 @@ module _ (w : Setting) (s : State) (l : Location) (c : Ccw) (got : resolve (w .l
     unfolding Step.planHome atIndex
     home-from = either P _ (no Step.notFound) (λ t. transfer-from _ nothing _ refl (λ x e. let z : _≡_ {A = ℕ} 0 1 = cc in absurd (omega arith)))
 
-    module _ (k : Read) (t : Track) (k-is : commandOf (c .command) ≡ ReadRecord k) (t-is : trackIn (w .pack) (d .at) ≡ some t) where
+    module _ (k : Read) (k-is : Reads (commandOf (c .command)) k) (d′ : Drive) (same : d′ .mask ≡ d .mask)
+        (t : Track) (t-is : trackIn (w .pack) (d′ .at) ≡ some t) where
       -- the record at the place that a read takes
-      taken-from : (place : ℕ) → place ≡ taken (k .just) d (length (t .records)) → place < length (t .records)
+      taken-from : (place : ℕ) → place ≡ taken (k .just) d′ (length (t .records)) → place < length (t .records)
           → (x : Record) → Step.areaOf k (getD (t .records) place noRecord) ≡ dataOf x
-          → Taken w s c x (Step.bytesOf k (getD (t .records) place noRecord)) (movedPast d place (not (k .datas)) 0)
+          → Taken w s c x (Step.bytesOf k (getD (t .records) place noRecord)) (movedPast d′ place (not (k .datas)) 0)
       taken-from place e b x h =
           let v = areaOf-data k (getD (t .records) place noRecord) x h in
           rw (← (v .2)) (record {
             kind = k;
             track = t;
             place = place;
+            reached = d′;
             command-is = k-is;
             takes-data = v .0;
+            mask-same = same;
             track-is = t-is;
             place-is = e;
             below = b;
             record-is = refl;
             bytes-are = refl;
-            after-is = ap (λ y. movedPast d place (not y) 0) (v .0);
+            after-is = ap (λ y. movedPast d′ place (not y) 0) (v .0);
             body-some = v .1;
             body-in = bytesOf-body k _ (v .0);
             bytes-few = bytesOf-few k _;
           })
 
-      place-from : P (Step.planPlace l c d st (w .lent) k (t .records) (taken (k .just) d (length (t .records))))
-      unfolding Step.planPlace Step.planRecord movedPast
-      place-from = both-if P _ (λ e. transfer-from _ _ _ refl (taken-from _ refl (ltb-true _ _ e))) (λ e. no Step.notFound)
+      place-from : P (Step.planPlace l c d′ st (w .lent) k (t .records) (taken (k .just) d′ (length (t .records))))
+      unfolding Step.planPlace Step.planRecord Step.planTransfer movedPast
+      place-from = both-if P _ (λ e. transfer-from _ _ _ same (taken-from _ refl (ltb-true _ _ e))) (λ e. no-from d′ Step.notFound)
 
-    read-from : (k : Read) → commandOf (c .command) ≡ ReadRecord k → P (Step.planRead l c d st (w .pack) (w .lent) k)
+    -- a read from a drive with the mask of s
+    read-from : (k : Read) → Reads (commandOf (c .command)) k → (e : Drive) → e .mask ≡ d .mask → P (Step.planRead l c e st (w .pack) (w .lent) k)
     unfolding Step.planRead
-    read-from k e = either-if P _ (λ n. no Step.notFound) (λ t f. place-from k t e f)
+    read-from k q e same = either-if P _ (λ n. no-from e Step.notFound) (λ t f. place-from k q e same t f)
 
   perform-from : (k : Command) → commandOf (c .command) ≡ k → Step.sound (w .lent) l (length st) c k ≡ true → P (Step.perform w l c d st k)
-  unfolding Step.perform Step.sound
+  unfolding Step.perform Step.sound Step.planSearchMultitrack Step.planReadMultitrack
   perform-from NoOperation e r = noOperation-from
   perform-from Unlisted e r = no Step.rejected
   perform-from Seek e r = counted-from 6 _ (seek-from _ _)
   perform-from SetMask e r = counted-from 1 _ (mask-from _)
   perform-from SetSector e r = counted-from 1 _ (sector-from _)
-  perform-from SearchId e r = counted-from 5 _ (search-from _)
+  perform-from SearchId e r = counted-from 5 _ (search-from d refl _)
   perform-from ReadHome e r = home-from r
-  perform-from (ReadRecord k) e r = read-from r k e
+  perform-from (ReadRecord k) e r = read-from r k (rw e on-track) d refl
+  perform-from SearchIdMultitrack e r = counted-from 5 _ (multitrack-from _ (search-masked (w .pack) d) (λ x m. search-from x m _))
+  perform-from (ReadMultitrack k) e r = multitrack-from _ (take-masked (w .pack) (k .just) d) (λ x m. read-from r k (rw e multitrack) x m)
 
 dispatch-from : (w : Setting) (s : State) (g : Fetched) → resolve (w .lent) (s .last) (s .at) ≡ g → PlanFrom w s (Step.dispatch w (s .drive) (s .storage) g)
 unfolding Step.dispatch Step.execute Step.programCheck

@@ -5,6 +5,7 @@ use mathlib.Core.Path.{_≡_, refl}
 use mathlib.Core.Bool.{false}
 use mathlib.Core.List.{List}
 use Rattle.base.proofs.Choice.{both, either}
+use Rattle.pack.specs.Pack.{Track}
 use Rattle.faults.specs.Faults.{Fault}
 use Rattle.channel.specs.declared.Ccw.{Ccw}
 use Rattle.channel.specs.declared.Location.{Location}
@@ -12,11 +13,12 @@ use Rattle.channel.specs.declared.Fetched.{Fetched}
 use Rattle.channel.specs.declared.Fetched.the-variants.{Got, Broken}
 use Rattle.channel.specs.Ccw.{resolve, next}
 use Rattle.drive.specs.declared.Command.{Command}
-use Rattle.drive.specs.declared.Command.the-variants.{NoOperation, Seek, SetMask, SetSector, SearchId, ReadHome, ReadRecord, Unlisted}
+use Rattle.drive.specs.declared.Command.the-variants.{NoOperation, Seek, SetMask, SetSector, SearchId, ReadHome, ReadRecord, SearchIdMultitrack, ReadMultitrack, Unlisted}
 use Rattle.drive.specs.Drive.{Drive}
 use Rattle.drive.specs.Command.{commandOf}
 use Rattle.drive.specs.Step as Step
 use Rattle.drive.specs.Step.{Check, Plan, Setting}
+use Rattle.drive.proofs.Multitrack.{reached-by}
 use Rattle.drive.specs.Storage.{isRead, readsNext, storageBehind, OnlyReadsWrite}
 
 module _ (fs : List Fault) (st : List ℕ) where
@@ -45,16 +47,24 @@ module _ (fs : List Fault) (st : List ℕ) where
     unfolding Step.counted
     counts n p h = both Keeps _ h (refuses Step.rejected)
 
+    searches : (pack : List Track) (g : List ℕ) → Keeps (Step.planSearch l c d st pack g)
+    unfolding Step.planSearch Step.examine
+    searches pack g = either Keeps _ (refuses Step.notFound) (λ t. both Keeps _ (refuses Step.notFound) (both Keeps _ (is-done _ _) (is-done _ _)))
+
+  module _ (l : Location) (c : Ccw) (d : Drive) where
     performs : (w : Setting) (k : Command) → isRead k ≡ false → Keeps (Step.perform w l c d st k)
-    unfolding Step.perform Step.planNoOperation Step.planSeek Step.planMask Step.planSector Step.planSearch Step.examine isRead
-    performs w NoOperation h = both Keeps _ (refuses Step.rejected) (goes-on (next l) (c .count) _)
-    performs w Unlisted h = refuses Step.rejected
-    performs w Seek h = counts 6 _ (both Keeps _ (both Keeps _ (refuses Step.protected) (is-done _ _)) (refuses Step.rejected))
-    performs w SetMask h = counts 1 _ (both Keeps _ (is-done _ _) (refuses Step.rejected))
-    performs w SetSector h = counts 1 _ (both Keeps _ (is-done _ _) (refuses Step.rejected))
-    performs w SearchId h = counts 5 _ (either Keeps _ (refuses Step.notFound) (λ t. both Keeps _ (refuses Step.notFound) (both Keeps _ (is-done _ _) (is-done _ _))))
+    unfolding Step.perform Step.planNoOperation Step.planSeek Step.planMask Step.planSector Step.planSearchMultitrack isRead
+    performs w NoOperation h = both Keeps _ (refuses l c d Step.rejected) (goes-on l c d (next l) (c .count) _)
+    performs w Unlisted h = refuses l c d Step.rejected
+    performs w Seek h = counts l c d 6 _ (both Keeps _ (both Keeps _ (refuses l c d Step.protected) (is-done l c d _ _)) (refuses l c d Step.rejected))
+    performs w SetMask h = counts l c d 1 _ (both Keeps _ (is-done l c d _ _) (refuses l c d Step.rejected))
+    performs w SetSector h = counts l c d 1 _ (both Keeps _ (is-done l c d _ _) (refuses l c d Step.rejected))
+    performs w SearchId h = counts l c d 5 _ (searches l c d (w .pack) _)
     performs w ReadHome h = let z : _≡_ {A = ℕ} 0 1 = cc in absurd (omega arith)
     performs w (ReadRecord k) h = let z : _≡_ {A = ℕ} 0 1 = cc in absurd (omega arith)
+    performs w SearchIdMultitrack h =
+        counts l c d 5 _ (reached-by Keeps _ (λ k q. refuses l c d k) (λ e q. searches l c e (w .pack) _))
+    performs w (ReadMultitrack k) h = let z : _≡_ {A = ℕ} 0 1 = cc in absurd (omega arith)
 
   dispatches : (w : Setting) (d : Drive) (f : Fetched) → readsNext f ≡ false → Keeps (Step.dispatch w d st f)
   unfolding Step.dispatch Step.execute readsNext

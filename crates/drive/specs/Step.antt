@@ -1,7 +1,7 @@
--- One command of a run (document 01, "Channel" and "Drive").
+-- One command of a run (document 01, "Channel" and "Drive"; document 02, "Read on to the next head").
 -- A command is first planned, with no knowledge of the fault list; only a plan that takes a data area asks the list.
 -- So a faultless run is the same definition with an empty list.
-use Prim.Native.Nat.{ℕ, _+_, _-_}
+use Prim.Native.Nat.{ℕ, zero, suc, _+_, _-_}
 use mathlib.Core.Bool.{Bool, true, false, _&&_, _||_, not}
 use mathlib.Core.Option.{Option, none, some}
 use mathlib.Core.List.{List, [], _∷_, _++_}
@@ -25,10 +25,10 @@ use Rattle.channel.specs.Ccw.{Lent, chainsData, chainsCommand, formed, next, re
 use Rattle.channel.specs.Csw.{cswAt, endStatus, unitCheck, unitException, incorrectLengthStatus, programCheckStatus}
 use Rattle.channel.specs.Store.{store}
 use Rattle.channel.specs.Walk.{Walk, walked, checked, walk, readable, incorrectLength}
-use Rattle.drive.specs.Drive.{Drive, atIndex, movedPast, turn, passesIndex, taken, addressBytes, identifier, countArea, homeAddress, noRecord, sameBytes}
+use Rattle.drive.specs.Drive.{Drive, atIndex, movedPast, turn, passesIndex, pastZero, taken, addressBytes, identifier, countArea, homeAddress, noRecord, sameBytes}
 use Rattle.drive.specs.declared.Read.{Read}
 use Rattle.drive.specs.declared.Command.{Command}
-use Rattle.drive.specs.declared.Command.the-variants.{NoOperation, Seek, SetMask, SetSector, SearchId, ReadHome, ReadRecord, Unlisted}
+use Rattle.drive.specs.declared.Command.the-variants.{NoOperation, Seek, SetMask, SetSector, SearchId, ReadHome, ReadRecord, SearchIdMultitrack, ReadMultitrack, Unlisted}
 use Rattle.drive.specs.declared.FileMask.{FileMask}
 use Rattle.drive.specs.declared.FileMask.the-variants.{Unset, Set}
 use Rattle.drive.specs.Command.{commandOf}
@@ -78,15 +78,17 @@ programCheck l d st = ends (record { csw = cswAt l 0 programCheckStatus 0; sense
 
 -- The unit checks that are no data check.
 pub data Check : Type 0 where
-  rejected notFound protected : Check
+  rejected notFound protected endOfCylinder : Check
 
--- "only one bit is on: 0.0 command reject, 1.4 no record found, 1.5 file protected"
+-- "only one bit is on: 0.0 command reject, 1.4 no record found, 1.5 file protected"; "End of Cylinder (1.2)"
 unfoldable pub checkSense : Check → List ℕ
 checkSense rejected = 0x80 ∷ replicate 23 0
 checkSense notFound = 0 ∷ 0x08 ∷ replicate 22 0
 checkSense protected = 0 ∷ 0x04 ∷ replicate 22 0
+checkSense endOfCylinder = 0 ∷ 0x20 ∷ replicate 22 0
 
--- "commands rejected, protected or not found move nothing": the count left is the CCW's own
+-- "commands rejected, protected or not found move nothing"; of End of Cylinder and a protected step: "both move nothing, with no incorrect length".
+-- The count left is the CCW's own.
 unfoldable pub refusal : Check → Location → Ccw → Drive → List ℕ → Answer
 refusal k l c d st = ends (record { csw = cswAt l (endStatus + unitCheck) 0 (c .count); sense = checkSense k; mask = d .mask; storage = st })
 
@@ -229,6 +231,63 @@ module _ (l : Location) (c : Ccw) (d : Drive) (st : List ℕ) where
   planRead pack p k =
       opt (trackIn pack (d .at)) (refuse l c d st notFound) (λ t. planPlace p k (t .records) (taken (k .just) d (length (t .records))))
 
+-- ---- multitrack commands
+
+-- Where a multitrack command finds what it searches or reads: with the drive as it stands, or at the index of a head behind; or the unit check
+-- that ends it on the way there.
+pub data Reached : Type 0 where
+  reaches : Drive → Reached
+  fails : Check → Reached
+
+-- what comes of either
+unfoldable pub onReached : {A : Type 0} → Reached → (Check → A) → (Drive → A) → A
+onReached (reaches d) f g = g d
+onReached (fails k) f g = f k
+
+-- "mask bits 3 and 4 at 11 make the step File Protected"
+unfoldable pub protectsStep : FileMask → Bool
+protectsStep Unset = false
+protectsStep (Set m) = bitOn 3 m && bitOn 4 m
+
+-- "searches begin there with R0, reads after R0, and the count of index passes starts again": at the index of the next head
+unfoldable pub nextHead : Drive → Drive
+nextHead d = atIndex (record { cylinder = d .at .cylinder; head = d .at .head + 1 }) (d .mask)
+
+-- "Past head 18 they end with End of Cylinder (1.2) under any mask; before it, mask bits 3 and 4 at 11 make the step File Protected"
+unfoldable pub stepped : Drive → Reached
+stepped d =
+    pick (ltb (d .at .head) 18)
+    (pick (protectsStep (d .mask)) (fails protected) (reaches (nextHead d)))
+    (fails endOfCylinder)
+
+-- "Where the single-track form would pass the index, these step to the next head": a search, to the count area that comes next. A track that is
+-- not in the image has none.
+unfoldable pub searchFrom : List Track → Drive → Reached
+searchFrom pack d =
+    opt (trackIn pack (d .at)) (fails notFound)
+    (λ t. pick (passesIndex (length (t .records)) (d .next)) (stepped d) (reaches d))
+
+-- A read, to the next record other than R0, over tracks with R0 alone too. It looks at no more than n tracks; with 19, the heads of a cylinder,
+-- the first line is not met.
+unfoldable pub readFrom : List Track → ℕ → Drive → Reached
+readFrom pack zero d = fails endOfCylinder
+readFrom pack (suc n) d =
+    opt (trackIn pack (d .at)) (fails notFound)
+    (λ t. pick (passesIndex (length (t .records)) (pastZero (d .next))) (onReached (stepped d) fails (readFrom pack n)) (reaches d))
+
+-- 86 and 8E (`just`) take "the record whose count area was just passed" as 06 and 0E do, and pass no index for it
+unfoldable pub takeFrom : List Track → Bool → Drive → Reached
+takeFrom pack just d = pick (just && d .passed) (reaches d) (readFrom pack 19 d)
+
+module _ (l : Location) (c : Ccw) (d : Drive) (st : List ℕ) where
+  -- "The drive stays on the head reached": a multitrack command is its single-track form from there
+  unfoldable pub planSearchMultitrack : List Track → List ℕ → Plan
+  planSearchMultitrack pack g = onReached (searchFrom pack d) (refuse l c d st) (λ e. planSearch l c e st pack g)
+
+  -- so for the reads: 86 and 8E (`k .just`), 92 and 9E
+  unfoldable pub planReadMultitrack : List Track → Lent → Read → Plan
+  planReadMultitrack pack p k = onReached (takeFrom pack (k .just) d) (refuse l c d st) (λ e. planRead l c e st pack p k)
+
 -- ---- one CCW
 
 -- the program checks of a CCW that is no TIC: "count 0 or low flag bits on", "a data range not wholly in its area";
@@ -242,6 +301,8 @@ sound p l size c SetSector = formed c && argumentInside p l c
 sound p l size c SearchId = formed c && argumentInside p l c
 sound p l size c ReadHome = readable size c
 sound p l size c (ReadRecord k) = readable size c
+sound p l size c SearchIdMultitrack = formed c && argumentInside p l c
+sound p l size c (ReadMultitrack k) = readable size c
 
 -- What a run is told: the pack's last cylinder, the pack, the areas that it reads.
 pub record Setting : Type 0 where
@@ -259,6 +320,8 @@ perform w l c d st SetSector = counted l c d st 1 (planSector l c d st (getD (ar
 perform w l c d st SearchId = counted l c d st 5 (planSearch l c d st (w .pack) (argument (w .lent) l c))
 perform w l c d st ReadHome = planHome l c d st (w .pack) (w .lent)
 perform w l c d st (ReadRecord k) = planRead l c d st (w .pack) (w .lent) k
+perform w l c d st SearchIdMultitrack = counted l c d st 5 (planSearchMultitrack l c d st (w .pack) (argument (w .lent) l c))
+perform w l c d st (ReadMultitrack k) = planReadMultitrack l c d st (w .pack) (w .lent) k
 
 -- "A program check is found before the drive sees the command"
 unfoldable pub execute : Setting → Location → Ccw → Drive → List ℕ → Plan
@@ -348,7 +411,7 @@ step fs w s = carry fs (s .storage) (plan w s)
 
 -- ---- what a command reads
 
--- A data area that a 06, 0E or 1E takes: its record, and whether the fault list names it.
+-- A data area that a 06, 0E, 1E, 86, 8E or 9E takes: its record, and whether the fault list names it.
 pub record Area : Type 0 where
   pub at : Address
   pub r : ℕ

@@ -9,11 +9,11 @@ use Rattle.channel.specs.declared.Fetched.{Fetched}
 use Rattle.channel.specs.declared.Fetched.the-variants.{Got, Broken}
 use Rattle.channel.specs.Ccw.{resolve}
 use Rattle.drive.specs.declared.Command.{Command}
-use Rattle.drive.specs.declared.Command.the-variants.{NoOperation, Seek, SetMask, SetSector, SearchId, ReadHome, ReadRecord, Unlisted}
+use Rattle.drive.specs.declared.Command.the-variants.{NoOperation, Seek, SetMask, SetSector, SearchId, ReadHome, ReadRecord, SearchIdMultitrack, ReadMultitrack, Unlisted}
 use Rattle.drive.specs.Command.{commandOf}
 use Rattle.drive.specs.Step.{State, Answer, Setting, step}
 
--- whether a command is a read: "06 data, 0E key and data, 12 count, 1E count, key and data", "1A home address"
+-- whether a command is a read: "06 data, 0E key and data, 12 count, 1E count, key and data", "1A home address", and 86, 8E, 92 and 9E
 unfoldable pub isRead : Command → Bool
 isRead NoOperation = false
 isRead Seek = false
@@ -23,6 +23,8 @@ isRead SearchId = false
 isRead Unlisted = false
 isRead ReadHome = true
 isRead (ReadRecord k) = true
+isRead SearchIdMultitrack = false
+isRead (ReadMultitrack k) = true
 
 -- whether the CCW that comes next is a read; where none can be fetched, nothing is read
 unfoldable pub readsNext : Fetched → Bool

@@ -24,6 +24,8 @@ pub enum Command {
     SearchId,
     ReadHome,
     ReadRecord(Read),
+    SearchIdMultitrack,
+    ReadMultitrack(Read),
     Unlisted,
 }
 
@@ -68,6 +70,31 @@ pub fn command_of(code: u8) -> Command
             datas: true,
         }),
         0x1a => Command::ReadHome,
+        0xb1 => Command::SearchIdMultitrack,
+        0x86 => Command::ReadMultitrack(Read {
+            just: true,
+            counts: false,
+            keys: false,
+            datas: true,
+        }),
+        0x8e => Command::ReadMultitrack(Read {
+            just: true,
+            counts: false,
+            keys: true,
+            datas: true,
+        }),
+        0x92 => Command::ReadMultitrack(Read {
+            just: false,
+            counts: true,
+            keys: false,
+            datas: false,
+        }),
+        0x9e => Command::ReadMultitrack(Read {
+            just: false,
+            counts: true,
+            keys: true,
+            datas: true,
+        }),
         _ => Command::Unlisted,
     }
 }
@@ -135,6 +162,8 @@ pub fn sound(
         Command::SearchId => argument_sound(l, c, arguments, restart_arguments),
         Command::ReadHome => c.readable(size),
         Command::ReadRecord(_) => c.readable(size),
+        Command::SearchIdMultitrack => argument_sound(l, c, arguments, restart_arguments),
+        Command::ReadMultitrack(_) => c.readable(size),
     }
 }
 

@@ -8,13 +8,17 @@ use lib.ListN.{length}
 use Rattle.faults.specs.Faults.{Fault, faultsAt}
 use Rattle.channel.specs.declared.Ccw.{Ccw}
 use Rattle.channel.specs.declared.Location.{Location}
+use Rattle.channel.specs.Ccw.{Lent}
 use Rattle.channel.specs.Fetch.{InBytes, Inside}
-use Rattle.drive.specs.Command.{commandOf}
+use Rattle.drive.specs.declared.Command.{Command}
+use Rattle.drive.specs.declared.Command.the-variants.{NoOperation, Seek, SetMask, SetSector, SearchId, ReadHome, ReadRecord, SearchIdMultitrack, ReadMultitrack, Unlisted}
 use Rattle.drive.specs.Drive as Abstract
 use Rattle.drive.specs.Step as Step
 use Rattle.command.specs.declared.State.{State}
 use Rattle.command.specs.declared.Answer.{Answer}
 use Rattle.command.specs.Answer.{stateOf, answerOf, settingWith, lentOf}
+use Rattle.heads.specs.declared.Reached.{Reached}
+use Rattle.heads.specs.Reached.{reachedOf}
 
 -- One command, from a state and storage: what it comes to, and storage behind it.
 abbrev pub Steps : (chain arguments program restartArguments image faults : List ℕ) → State → List ℕ → Answer → List ℕ → Type 0
@@ -35,13 +39,33 @@ pub record InArea (chain program : List ℕ) (l : Location) (c : Ccw) : Type 0 w
   pub inside : Inside chain program l
   pub bytes : InBytes c
 
--- it makes no program check
-abbrev pub Unchecked : (chain arguments program restartArguments st : List ℕ) → Location → Ccw → Type 0
-Unchecked chain arguments program restartArguments st l c =
-    Step.sound (lentOf chain arguments program restartArguments) l (length st) c (commandOf (c .command)) ≡ true
+-- as the command k it makes no program check
+abbrev pub Unchecked : (chain arguments program restartArguments st : List ℕ) → Location → Ccw → Command → Type 0
+Unchecked chain arguments program restartArguments st l c k = Step.sound (lentOf chain arguments program restartArguments) l (length st) c k ≡ true
 
 -- what it then comes to
-abbrev pub Performs : (chain arguments program restartArguments image faults : List ℕ) → Location → Ccw → Abstract.Drive → List ℕ → Answer → List ℕ → Type 0
-Performs chain arguments program restartArguments image faults l c d st r after =
+abbrev pub Performs : (chain arguments program restartArguments image faults : List ℕ) → Location → Ccw → Command → Abstract.Drive → List ℕ → Answer → List ℕ → Type 0
+Performs chain arguments program restartArguments image faults l c k d st r after =
     (fs : List Fault) → faultsAt faults 0 ≡ some fs
-    → Step.carry fs st (Step.perform (settingWith (lentOf chain arguments program restartArguments) image) l c d st (commandOf (c .command))) ≡ answerOf r after
+    → Step.carry fs st (Step.perform (settingWith (lentOf chain arguments program restartArguments) image) l c d st k) ≡ answerOf r after
+
+-- ---- multitrack commands
+
+-- the single-track form of a command
+unfoldable pub singleTrack : Command → Command
+singleTrack NoOperation = NoOperation
+singleTrack Seek = Seek
+singleTrack SetMask = SetMask
+singleTrack SetSector = SetSector
+singleTrack SearchId = SearchId
+singleTrack ReadHome = ReadHome
+singleTrack (ReadRecord k) = ReadRecord k
+singleTrack SearchIdMultitrack = SearchId
+singleTrack (ReadMultitrack k) = ReadRecord k
+singleTrack Unlisted = Unlisted
+
+-- where the command k is done, from the drive d: with a drive as its single-track form, or a unit check ends it
+abbrev pub ReachesFor : (image : List ℕ) → Ccw → Command → Abstract.Drive → Reached → Type 0
+ReachesFor image c k d r =
+    (p : Lent) (l : Location) (st : List ℕ) → Step.perform (settingWith p image) l c d st k
+    ≡ Step.onReached (reachedOf r) (Step.refuse l c d st) (λ e. Step.perform (settingWith p image) l c e st (singleTrack k))

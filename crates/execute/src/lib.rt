@@ -3,18 +3,90 @@ use channel::Ccw;
 use channel::Fetched;
 use channel::Location;
 use command::Answer;
+use command::Check;
 use command::State;
 use drive::Command;
+use heads::Reached;
 use position::Drive;
 ghost use mathlib.Core.Path.{_≡_};
 ghost use Rattle.drive.specs.Command.{commandOf};
 ghost use Rattle.position.specs.Standing.{driveOf, Standing};
 ghost use Rattle.location.specs.Low.{Low};
 ghost use Rattle.command.specs.Answer.{Kept};
+ghost use Rattle.heads.specs.Reached.{ReachedStands};
 ghost use Rattle.read_command.specs.Reads.{Begun};
-ghost use Rattle.execute.specs.Executes.{Steps, Executes, InArea, Unchecked, Performs};
+ghost use Rattle.execute.specs.Executes.{Steps, Executes, InArea, Unchecked, Performs, singleTrack, ReachesFor};
 
-// A command that makes no program check.
+// The single-track form of a multitrack command; any other command as it is.
+fn single_track(k: Command) -> Command
+    ensures { λ r. ⌜ r ≡ singleTrack k ⌝ }
+{
+    match k {
+        Command::SearchIdMultitrack => Command::SearchId,
+        Command::ReadMultitrack(m) => Command::ReadRecord(m),
+        _ => k,
+    }
+}
+
+// Where the command k of the CCW c is done: a multitrack one from where it reaches, any other with the drive as it stands. A search that will be
+// rejected for its count does not step.
+fn reach(image: &[u8], c: Ccw, k: Command, d: Drive) -> Reached
+    requires { ⌜ Standing (now image) d ⌝ }
+    ensures { λ r. ⌜ ReachesFor (now (image .entry)) c k (driveOf d) r ⌝ }
+    ensures { λ r. ⌜ ReachedStands (now (image .entry)) r ⌝ }
+{
+    match k {
+        Command::SearchIdMultitrack => {
+            if !control::counted(c, 5) {
+                return Reached::Reaches(d);
+            }
+            return heads::reach_search(d, image);
+        }
+        Command::ReadMultitrack(m) => {
+            return heads::reach_read(d, image, m.just);
+        }
+        _ => {
+            return Reached::Reaches(d);
+        }
+    }
+}
+
+// A command of one track, or a multitrack one as such from where it reaches; it makes no program check.
+fn perform_on_track(
+    chain: &[u8],
+    arguments: &[u8],
+    program: &[u8],
+    restart_arguments: &[u8],
+    image: &[u8],
+    faults: &[u8],
+    l: Location,
+    c: Ccw,
+    k: Command,
+    d: Drive,
+    storage: &mut [u8],
+) -> Answer
+    requires { ⌜ Begun (now chain) (now program) (now image) (now faults) ⌝ }
+    requires { ⌜ InArea (now chain) (now program) l c ⌝ }
+    requires { ⌜ Standing (now image) d ⌝ }
+    requires { ⌜ k ≡ singleTrack (commandOf (c .command)) ⌝ }
+    requires { ⌜ Unchecked (now chain) (now arguments) (now program) (now «restart_arguments») (now storage) l c k ⌝ }
+    ensures { λ r.
+        let before = now (storage .entry) in
+        let after = now (storage .exit) in
+        ⌜ Performs (now (chain .entry)) (now (arguments .entry)) (now (program .entry)) (now («restart_arguments» .entry))
+        (now (image .entry)) (now (faults .entry)) l c k (driveOf d) before r after ⌝ }
+    ensures { λ r. ⌜ Kept (now (image .entry)) r ⌝ }
+{
+    match k {
+        Command::ReadHome => read_command::read_home(chain, program, image, l, c, d, storage),
+        Command::ReadRecord(m) => {
+            read_command::read_record(chain, program, image, faults, l, c, m, d, storage)
+        }
+        _ => moveless::perform(arguments, restart_arguments, image, l, c, k, d),
+    }
+}
+
+// A command that makes no program check. What it calls has one caller, so that the compiler builds it in here.
 fn perform(
     chain: &[u8],
     arguments: &[u8],
@@ -32,20 +104,32 @@ fn perform(
     requires { ⌜ InArea (now chain) (now program) l c ⌝ }
     requires { ⌜ Standing (now image) d ⌝ }
     requires { ⌜ k ≡ commandOf (c .command) ⌝ }
-    requires { ⌜ Unchecked (now chain) (now arguments) (now program) (now «restart_arguments») (now storage) l c ⌝ }
+    requires { ⌜ Unchecked (now chain) (now arguments) (now program) (now «restart_arguments») (now storage) l c k ⌝ }
     ensures { λ r.
         let before = now (storage .entry) in
         let after = now (storage .exit) in
         ⌜ Performs (now (chain .entry)) (now (arguments .entry)) (now (program .entry)) (now («restart_arguments» .entry))
-        (now (image .entry)) (now (faults .entry)) l c (driveOf d) before r after ⌝ }
+        (now (image .entry)) (now (faults .entry)) l c k (driveOf d) before r after ⌝ }
     ensures { λ r. ⌜ Kept (now (image .entry)) r ⌝ }
 {
-    match k {
-        Command::ReadHome => read_command::read_home(chain, program, image, l, c, d, storage),
-        Command::ReadRecord(m) => {
-            read_command::read_record(chain, program, image, faults, l, c, m, d, storage)
-        }
-        _ => moveless::perform(arguments, restart_arguments, image, l, c, k, d),
+    let j = single_track(k);
+    match reach(image, c, k, d) {
+        Reached::NotFound => command::refuse(Check::NotFound, l, c, d),
+        Reached::Protected => command::refuse(Check::Protected, l, c, d),
+        Reached::EndOfCylinder => command::refuse(Check::EndOfCylinder, l, c, d),
+        Reached::Reaches(e) => perform_on_track(
+            chain,
+            arguments,
+            program,
+            restart_arguments,
+            image,
+            faults,
+            l,
+            c,
+            j,
+            e,
+            storage,
+        ),
     }
 }
 

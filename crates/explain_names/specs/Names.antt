@@ -1,5 +1,5 @@
 -- Commands, flags, sense bits, actions and questions in words. Each list of names has a slash between each and the next.
-use Prim.Native.Nat.{ℕ}
+use Prim.Native.Nat.{ℕ, _+_}
 use mathlib.Core.List.{List, [], _++_}
 use lib.Dec.{eqb}
 use Rattle.base.specs.Choice.{pick}
@@ -14,7 +14,7 @@ use Rattle.channel.specs.declared.Ccw.{Ccw}
 use Rattle.channel.specs.Ccw.{isTic}
 use Rattle.drive.specs.declared.Read.{Read}
 use Rattle.drive.specs.declared.Command.{Command}
-use Rattle.drive.specs.declared.Command.the-variants.{NoOperation, Seek, SetMask, SetSector, SearchId, ReadHome, ReadRecord, Unlisted}
+use Rattle.drive.specs.declared.Command.the-variants.{NoOperation, Seek, SetMask, SetSector, SearchId, ReadHome, ReadRecord, SearchIdMultitrack, ReadMultitrack, Unlisted}
 use Rattle.drive.specs.Command.{commandOf}
 
 -- ---- the command of a CCW
@@ -23,7 +23,8 @@ use Rattle.drive.specs.Command.{commandOf}
 unfoldable pub commandNames : List ℕ
 commandNames =
     ascii "transfer in channel/no operation/seek/set file mask/set sector/search ID equal/read home address/unlisted command/"
-    ++ ascii "read data/read key and data/read count/read count, key and data"
+    ++ ascii "read data/read key and data/read count/read count, key and data/search ID equal, multitrack/"
+    ++ ascii "read data, multitrack/read key and data, multitrack/read count, multitrack/read count, key and data, multitrack"
 
 -- a read of a record, by what it moves
 unfoldable pub readIndex : Read → ℕ
@@ -39,6 +40,8 @@ commandIndex SearchId = 5
 commandIndex ReadHome = 6
 commandIndex Unlisted = 7
 commandIndex (ReadRecord k) = readIndex k
+commandIndex SearchIdMultitrack = 12
+commandIndex (ReadMultitrack k) = readIndex k + 5
 
 -- the same for a CCW: 0 for a TIC
 unfoldable pub ccwIndex : Ccw → ℕ

@@ -13,6 +13,7 @@ ghost use Rattle.explain_names.specs.Names.{readIndex, commandIndex, ccw
 
 fn read_index(k: Read) -> usize
     ensures { λ r. ⌜ r ≡ readIndex k ⌝ }
+    ensures { λ r. ⌜ r < 12 ⌝ }
 {
     if k.counts {
         if k.datas {
@@ -38,6 +39,8 @@ fn command_index(k: Command) -> usize
         Command::ReadHome => 6,
         Command::Unlisted => 7,
         Command::ReadRecord(r) => read_index(r),
+        Command::SearchIdMultitrack => 12,
+        Command::ReadMultitrack(r) => read_index(r) + 5,
     }
 }
 
@@ -59,7 +62,7 @@ pub fn put_command(out: &mut [u8], at: usize, c: Ccw) -> usize
     words::put_item(
         out,
         at,
-        b"transfer in channel/no operation/seek/set file mask/set sector/search ID equal/read home address/unlisted command/read data/read key and data/read count/read count, key and data",
+        b"transfer in channel/no operation/seek/set file mask/set sector/search ID equal/read home address/unlisted command/read data/read key and data/read count/read count, key and data/search ID equal, multitrack/read data, multitrack/read key and data, multitrack/read count, multitrack/read count, key and data, multitrack",
         i,
     )
 }

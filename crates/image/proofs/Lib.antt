@@ -2,3 +2,4 @@ pub mod Marks
 pub mod Pass
 pub mod Sound
 pub mod Pigeons
+pub mod Beyond

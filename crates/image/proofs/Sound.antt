@@ -1,5 +1,6 @@
 -- What a well formed image says of its pack.
 --   same-address      addresses that are found to be the same are equal
+--   pack-sound        its tracks are sound
 --   track-sound       a track of a well formed image is sound, and has the address that was asked for
 --   RecordSays, record-says   the address, number and lengths of a record of a sound track
 --   record-apart              no two of its records have the same number
@@ -48,13 +49,15 @@ tracks-sound last b (u ∷ ts) a t h e =
     rw (← w) (and-right (follows b (u .at)) (soundTrack last u) s, same-address (u .at) a q))
     (λ q. tracks-sound last (Behind (u .at)) ts a t r (rw q at e))
 
-pub track-sound : (last : ℕ) (s : List ℕ) (a : Address) (t : Track) → wellFormed last s ≡ true → trackIn (packOf s) a ≡ some t → (soundTrack last t ≡ true) × (t .at ≡ a)
+pub pack-sound : (last : ℕ) (s : List ℕ) → wellFormed last s ≡ true → soundTracks last Nothing (packOf s) ≡ true
 unfolding packOf opt wellFormed wellFormedFrom
-track-sound last s a t h e =
+pack-sound last s h =
     let d = decodes last s h in
     let w : (noRecords (d .0 .records) && soundTracks last Nothing (d .0 .tracks)) ≡ true = rw (d .1) at h in
-    let f : trackIn (d .0 .tracks) a ≡ some t = rw (d .1) at e in
-    tracks-sound last Nothing (d .0 .tracks) a t (and-right (noRecords (d .0 .records)) _ w) f
+    rw (d .1) (and-right (noRecords (d .0 .records)) _ w)
+
+pub track-sound : (last : ℕ) (s : List ℕ) (a : Address) (t : Track) → wellFormed last s ≡ true → trackIn (packOf s) a ≡ some t → (soundTrack last t ≡ true) × (t .at ≡ a)
+track-sound last s a t h e = tracks-sound last Nothing (packOf s) a t (pack-sound last s h) e
 
 -- ---- the records of a track
 

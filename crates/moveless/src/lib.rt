@@ -83,5 +83,7 @@ pub fn perform(
         Command::Unlisted => command::refuse(Check::Rejected, l, c, d),
         Command::ReadHome => command::refuse(Check::Rejected, l, c, d),
         Command::ReadRecord(_) => command::refuse(Check::Rejected, l, c, d),
+        Command::SearchIdMultitrack => command::refuse(Check::Rejected, l, c, d),
+        Command::ReadMultitrack(_) => command::refuse(Check::Rejected, l, c, d),
     }
 }

@@ -4,7 +4,7 @@ use Prim.Native.Nat.{ℕ, _+_, _-_, _<_, _≤_}
 use mathlib.Core.Path.{_≡_}
 use mathlib.Core.Bool.{Bool, false, _&&_}
 use mathlib.Core.Option.{none, some}
-use mathlib.Core.List.{List}
+use mathlib.Core.List.{List, _∷_, _++_}
 use lib.Dec.{eqb, leb}
 use lib.ListN.{length, getD}
 use Rattle.base.specs.Choice.{pick}
@@ -93,11 +93,12 @@ recordFrom s p = record { at = p .at; r = p .r; key = part s (p .key) (p .body);
 
 -- ---- lookups in an image that decodes
 
--- Where a search for a track ends: at the place from which the records of that track stand, or nowhere.
+-- Where a search for a track ends: at the place from which the records of that track stand, between the tracks before and behind it; or nowhere.
 abbrev pub TrackFound : List ℕ → Address → TrackAt → Type 0
 TrackFound s a (Records at) =
     (d : Decoded) → decodeAt s 0 ≡ some d →
     (t : Track) × (e : Decoded) × (trackIn (d .tracks) a ≡ some t) × (decodeAt s at ≡ some e) × (e .records ≡ t .records)
+    × (front : List Track) × (d .tracks ≡ front ++ t ∷ e .tracks)
 TrackFound s a NoTrack = (d : Decoded) → decodeAt s 0 ≡ some d → trackIn (d .tracks) a ≡ none
 
 -- Where a search for a record number ends, from a place on: at the first record with that number before the next home address, or nowhere.

@@ -14,7 +14,7 @@ use Rattle.pack.specs.Places.{TrackFound}
 use Rattle.drive.specs.declared.FileMask.{FileMask}
 use Rattle.position.specs.declared.Drive.{Drive}
 use Rattle.position.specs.Standing.{Sound, Standing}
-use Rattle.position.proofs.Image.{pack-is}
+use Rattle.position.proofs.Image.{pack-is, decoded}
 
 abbrev pub atStart : Address → Bool → ℕ → FileMask → Drive
 atStart a found at m = record { at = a; found = found; records = at; next = 0; here = at; behind = at; passed = false; passes = 0; mask = m }
@@ -25,17 +25,18 @@ never e = let z : _≡_ {A = ℕ} 0 1 = cc in absurd (omega arith)
 module _ (image : List ℕ) (a : Address) (m : FileMask) (w : Sound image) (low : (a .cylinder < 65536) × (a .head < 65536)) where
   pub index-on : (at : ℕ) → TrackFound image a (Records at) → Standing image (atStart a true at m)
   index-on at f =
-      let d = w .decodes in
+      let d = decoded w in
       let g = f (d .0) (d .1) in
+      let pack = pack-is image (d .0) (d .1) in
       record {
         sound = w;
         low = low;
         on = λ _. (
           g .0,
           record {
-            there = ap (λ ts. trackIn ts a) (pack-is image (d .0) (d .1)) ∙ g .2;
-            first = (g .1, g .3, g .4);
-            ahead = (g .1, g .3, g .4);
+            there = ap (λ ts. trackIn ts a) pack ∙ g .2;
+            first = (g .1, g .3, g .4, g .5, pack ∙ g .6);
+            ahead = (g .1, g .3, g .4, g .5, pack ∙ g .6);
             within = omega arith;
             near = omega arith;
             just = λ e. never (sym e);
@@ -47,7 +48,7 @@ module _ (image : List ℕ) (a : Address) (m : FileMask) (w : Sound image) (low 
 
   pub index-off : TrackFound image a NoTrack → Standing image (atStart a false 0 m)
   index-off f =
-      let d = w .decodes in
+      let d = decoded w in
       record {
         sound = w;
         low = low;

@@ -11,7 +11,7 @@ use native.Mathlib.Numerals.{add-one}
 use mathlib.Core.Path.{_≡_, refl, ap, sym, _∙_}
 use mathlib.Core.Bool.{Bool}
 use mathlib.Core.Logic.{⊎-elim, inr}
-use mathlib.Core.List.{List, [], _∷_}
+use mathlib.Core.List.{List, [], _∷_, _++_}
 use lib.Dec.{ltb}
 use lib.ListN.{length, getD, drop, length-drop, drop-of-length-le}
 use lib.Seq.{drop-cons}
@@ -58,7 +58,7 @@ drop-none xs n e = let h : length (drop n xs) ≡ 0 = rw e in omega (arith, leng
 abbrev pub spotAt : ℕ → ℕ → Place → Spot
 spotAt place start p = record { place = place; start = start; parts = p }
 
-module _ (image : List ℕ) (t : Track) (place start : ℕ) (s : StandsAt image start (drop place (t .records))) where
+module _ (image : List ℕ) (t : Track) (place start : ℕ) (s : StandsAt image start t place) where
   pub spotted : (p : Place) → place ≤ start → recordAt image start ≡ Located p → Within image p → Spotted image t (spotAt place start p)
   unfolding ledByRecord
   spotted p near h w =
@@ -68,7 +68,7 @@ module _ (image : List ℕ) (t : Track) (place start : ℕ) (s : StandsAt image 
       let b = record-bounds image start p h in
       record {
         stands = s;
-        ahead = (n .0, n .1, sym (g .2));
+        ahead = (n .0, n .1, sym (g .2), s .3, s .4 ∙ ap (λ (d : Decoded). s .3 ++ t ∷ d .tracks) (n .2));
         is = g .1;
         inside = g .0;
         near = near;
@@ -133,7 +133,7 @@ module _ (image : List ℕ) (d : Drive) where
   first-none h = λ t o. let e = ended image t 0 (d .records) (o .first) h in omega arith
 
   module _ (zero : Place) (h : recordAt image (d .records) ≡ Located zero) (w : Within image zero) where
-    behind-zero : (t : Track) → OnTrack image d t → StandsAt image (zero .next) (drop 1 (t .records))
+    behind-zero : (t : Track) → OnTrack image d t → StandsAt image (zero .next) t 1
     behind-zero t o = spotted image t 0 (d .records) (o .first) zero (omega arith) h w .ahead
 
     pub second-none : recordAt image (zero .next) ≡ NoRecord → Second image d Unseen

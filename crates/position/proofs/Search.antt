@@ -33,6 +33,7 @@ use Rattle.position.specs.declared.Coming.the-variants.{Area, Round}
 use Rattle.position.specs.declared.Examined.the-variants.{Equal, Unequal}
 use Rattle.position.specs.Standing.{driveOf, OnTrack, Standing, Examines}
 use Rattle.position.specs.Spots.{Spotted, names, ExaminesAt, Comes}
+use Rattle.position.proofs.Image.{begun}
 use Rattle.position.proofs.Places.{spotAt, spotted, ended}
 
 -- ---- the comparison
@@ -111,7 +112,7 @@ module _ (image : List ℕ) (d : Drive) where
     pub search-lost : {P : Type 0} → Standing image d → recordAt image (d .records) ≡ NoRecord → P
     search-lost s h =
         let a = ended image t 0 (d .records) (o .first) h in
-        let b = s .sound .begun (d .at) t (o .there) in
+        let b = begun (s .sound) (d .at) t (o .there) in
         absurd (omega arith)
 
 -- ---- a search

@@ -5,7 +5,7 @@ use mathlib.Core.Bool.{Bool, true, _&&_}
 use mathlib.Core.Logic.{_⊎_}
 use mathlib.Core.List.{List}
 use lib.Dec.{eqb}
-use lib.ListN.{length, getD, drop}
+use lib.ListN.{length, getD}
 use Rattle.base.specs.Choice.{pick}
 use Rattle.address.specs.declared.Address.{Address}
 use Rattle.address.specs.Order.{same}
@@ -30,8 +30,8 @@ use Rattle.position.specs.Standing.{driveOf, StandsAt, OnTrack, Examines
 
 -- A record at its place on a track: where its field stands in the image, and what stands behind it.
 pub record Spotted (image : List ℕ) (t : Track) (x : Spot) : Type 0 where
-  pub stands : StandsAt image (x .start) (drop (x .place) (t .records))
-  pub ahead : StandsAt image (x .parts .next) (drop (x .place + 1) (t .records))
+  pub stands : StandsAt image (x .start) t (x .place)
+  pub ahead : StandsAt image (x .parts .next) t (x .place + 1)
   pub is : getD (t .records) (x .place) noRecord ≡ recordFrom image (x .parts)
   pub inside : x .place < length (t .records)
   pub near : x .place ≤ x .start

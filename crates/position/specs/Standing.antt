@@ -3,13 +3,14 @@ use Prim.Native.Nat.{ℕ, _-_, _<_, _≤_}
 use mathlib.Core.Path.{_≡_}
 use mathlib.Core.Bool.{Bool, true, false}
 use mathlib.Core.Option.{none, some}
-use mathlib.Core.List.{List}
+use mathlib.Core.List.{List, _∷_, _++_}
 use lib.ListN.{length, getD, drop}
 use Rattle.address.specs.declared.Address.{Address}
-use Rattle.pack.specs.Pack.{Record, Track, Decoded, decodeAt, packOf, trackIn}
+use Rattle.pack.specs.Pack.{Track, Decoded, decodeAt, packOf, trackIn}
 use Rattle.pack.specs.declared.Place.{Place}
 use Rattle.pack.specs.declared.RecordAt.the-variants.{Located}
 use Rattle.pack.specs.Places.{recordAt, recordFrom, Within}
+use Rattle.image.specs.Image.{wellFormed}
 use Rattle.channel.specs.declared.Ccw.{Ccw}
 use Rattle.channel.specs.declared.Location.{Location}
 use Rattle.channel.specs.Ccw.{Lent, next}
@@ -26,24 +27,25 @@ use Rattle.position.specs.declared.Taken.the-variants.{Takes, Nothing}
 abbrev pub driveOf : Drive → Abstract.Drive
 driveOf d = record { at = d .at; next = d .next; passed = d .passed; passes = d .passes; mask = d .mask }
 
--- the records that stand from a place in the image on, up to the next home address
-abbrev pub StandsAt : List ℕ → ℕ → List Record → Type 0
-StandsAt image at xs = (e : Decoded) × (decodeAt image at ≡ some e) × (e .records ≡ xs)
+-- From a place in the image on stand the records of a track, from its place n on, and then the tracks behind it.
+abbrev pub StandsAt : List ℕ → ℕ → Track → ℕ → Type 0
+StandsAt image at t n =
+    (e : Decoded) × (decodeAt image at ≡ some e) × (e .records ≡ drop n (t .records)) × (front : List Track) × (packOf image ≡ front ++ t ∷ e .tracks)
 
--- An image that decodes, with a record on every track. A well formed image is one (`sound` in proofs/Image).
+-- A well formed image, on a pack with some last cylinder.
 pub record Sound (image : List ℕ) : Type 0 where
-  pub decodes : (e : Decoded) × (decodeAt image 0 ≡ some e)
-  pub begun : (a : Address) (t : Track) → trackIn (packOf image) a ≡ some t → 0 < length (t .records)
+  pub last : ℕ
+  pub formed : wellFormed last image ≡ true
 
 -- The drive is on a track of the image: where its records begin, where the count area that comes next stands, and where the one
 -- that was just passed. At least as many bytes as records lie before them, so that places on the track fit where places in the image do.
 pub record OnTrack (image : List ℕ) (d : Drive) (t : Track) : Type 0 where
   pub there : trackIn (packOf image) (d .at) ≡ some t
-  pub first : StandsAt image (d .records) (t .records)
-  pub ahead : StandsAt image (d .here) (drop (d .next) (t .records))
+  pub first : StandsAt image (d .records) t 0
+  pub ahead : StandsAt image (d .here) t (d .next)
   pub within : d .next ≤ length (t .records)
   pub near : d .next ≤ d .here
-  pub just : d .passed ≡ true → (0 < d .next) × (d .next - 1 ≤ d .behind) × StandsAt image (d .behind) (drop (d .next - 1) (t .records))
+  pub just : d .passed ≡ true → (0 < d .next) × (d .next - 1 ≤ d .behind) × StandsAt image (d .behind) t (d .next - 1)
 
 -- A drive in a sound image.
 pub record Standing (image : List ℕ) (d : Drive) : Type 0 where

@@ -10,7 +10,7 @@ ghost use mathlib.Core.Bool.{true, false, _&&_};
 ghost use mathlib.Core.List.{[], _∷_};
 ghost use Prim.Native.Nat.{_<_, _≤_};
 ghost use Rattle.pack.specs.declared.RecordAt.the-variants.{NoRecord};
-ghost use Rattle.pack.specs.Places.{recordAt};
+ghost use Rattle.pack.specs.Places.{recordAt, TrackFound};
 ghost use Rattle.drive.specs.declared.FileMask.the-variants as Masks;
 ghost use Rattle.drive.specs.Drive as Abstract;
 ghost use Rattle.position.specs.Standing.{driveOf, Sound, Standing, Examines, ExaminedStands, TakesFor, TakenStands};
@@ -74,14 +74,15 @@ fn names(p: Place, a: Address, r: usize) -> bool
 }
 
 impl Drive {
-    // At the index of a track.
-    fn at_track(image: &[u8], a: Address, mask: FileMask) -> Drive
+    // At the index of a track, by where a search for the track ends.
+    pub fn at_found(image: &[u8], a: Address, track: TrackAt, mask: FileMask) -> Drive
         requires { ⌜ Sound (now image) ⌝ }
         requires { ⌜ (a .cylinder < 65536) × (a .head < 65536) ⌝ }
+        requires { ⌜ TrackFound (now image) a track ⌝ }
         ensures { λ r. ⌜ driveOf r ≡ Abstract.atIndex a mask ⌝ }
         ensures { λ r. ⌜ Standing (now (image .entry)) r ⌝ }
     {
-        match pack::find_track(image, a) {
+        match track {
             TrackAt::Records(at) => Drive {
                 at: a,
                 found: true,
@@ -105,6 +106,16 @@ impl Drive {
                 mask: mask,
             },
         }
+    }
+
+    // The same, with that search.
+    fn at_track(image: &[u8], a: Address, mask: FileMask) -> Drive
+        requires { ⌜ Sound (now image) ⌝ }
+        requires { ⌜ (a .cylinder < 65536) × (a .head < 65536) ⌝ }
+        ensures { λ r. ⌜ driveOf r ≡ Abstract.atIndex a mask ⌝ }
+        ensures { λ r. ⌜ Standing (now (image .entry)) r ⌝ }
+    {
+        Drive::at_found(image, a, pack::find_track(image, a), mask)
     }
 
     // As a run starts.
@@ -358,7 +369,7 @@ impl Drive {
     }
 
     // Whether a read takes the record whose count area was just passed.
-    fn takes_passed(self, just: bool) -> bool
+    pub fn takes_passed(self, just: bool) -> bool
         ensures { λ r. ⌜ r ≡ (just && self .passed) ⌝ }
     {
         if !just {

@@ -6,7 +6,7 @@ use lib.ListN.{replicate}
 use Rattle.base.specs.Choice.{opt}
 use Rattle.questions.specs.Areas.{restartAreas}
 use Rattle.drive.specs.Step.{End}
-use Rattle.demand_three.specs.Demand.{Lending}
+use Rattle.demand_three.specs.Demand.{Lending, endOf}
 use Rattle.reading_runs.specs.declared.How.the-variants.{Ended}
 use Rattle.reading_runs.specs.Conclusion.{Conclusion}
 use Rattle.whole_reading.specs.Reading.{readingCall}
@@ -24,7 +24,7 @@ zeros = record { program = replicate 64 0; restartArguments = replicate 16 0; li
 
 -- the lines of a conclusion that keeps demand 3
 kept-lines : {g : Lending} {e : End} {b : Beside} (c : Conclusion) (k : Keeps g e b c)
-    → shown c ≡ entryLines (k .like .made) ++ endLine Ended (e .csw) ++ storageLine (e .storage)
+    → shown c ≡ entryLines (k .like .made) ++ endLine Ended (endOf g e .csw) ++ storageLine (e .storage)
 unfolding shown answerText
 kept-lines {g} {e} {b} c k = rw (k .answer, k .storage, k .list, ← length-made (k .like), lines-of-log (k .like .made) (b .list))
 

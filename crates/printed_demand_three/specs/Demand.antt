@@ -6,7 +6,7 @@ use mathlib.Core.Option.{some}
 use mathlib.Core.List.{List, _++_}
 use lib.ListN.{replicate}
 use Rattle.drive.specs.Step.{End}
-use Rattle.demand_three.specs.Demand.{Lending, Begins, Provided, LikeFaultless}
+use Rattle.demand_three.specs.Demand.{Lending, Begins, Provided, endOf, LikeFaultless}
 use Rattle.reading_runs.specs.declared.How.the-variants.{Ended}
 use Rattle.reading_input.specs.Input.{partsOf}
 use Rattle.reading_lines.specs.Lines.{endLine, storageLine}
@@ -25,8 +25,8 @@ pub record PrintedLikeFaultless (g : Lending) (e : End) (text : List ℕ) : Type
   -- the reading as the definitions have it: the recoveries that it makes are the faulted data areas that the faultless run reads, in order
   pub like : LikeFaultless g e
   -- "a line for each recovery"; then the word "end", which neither "limit" nor "stopped" replaces, with "ending address, unit status, channel
-  -- status and count left" of the faultless run; then "the first 16 bytes of storage" of that run
-  pub lines : text ≡ entryLines (like .made) ++ endLine Ended (e .csw) ++ storageLine (e .storage)
+  -- status and count left" of the faultless run, but for the exception that `endOf` states; then "the first 16 bytes of storage" of that run
+  pub lines : text ≡ entryLines (like .made) ++ endLine Ended (endOf g e .csw) ++ storageLine (e .storage)
 
 -- DEMAND 3 of every input: where the reading may begin and the provisos hold, the text is what demand 3 asks for.
 abbrev pub PrintedKeepsDemandThree : Type 0

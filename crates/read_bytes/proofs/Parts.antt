@@ -8,6 +8,7 @@ use native.Mathlib.Nat.{suc-add, zero-add}
 use native.Mathlib.Omega.{arith}
 use mathlib.Core.Path.{_≡_, refl, ap, sym, subst, _∙_}
 use mathlib.Core.Bool.{Bool, true, false}
+use mathlib.Core.Logic.{inl, inr}
 use mathlib.Core.List.{List, [], _∷_, _++_, append-nil}
 use lib.Dec.{eqb}
 use lib.ListN.{length, getD, take, drop}
@@ -20,11 +21,11 @@ use Rattle.pack.specs.declared.Place.{Place}
 use Rattle.pack.specs.Places.{recordFrom, Within}
 use Rattle.drive.specs.declared.Read.{Read}
 use Rattle.drive.specs.declared.Command.{Command}
-use Rattle.drive.specs.declared.Command.the-variants.{NoOperation, Seek, SetMask, SetSector, SearchId, ReadHome, ReadRecord, Unlisted}
+use Rattle.drive.specs.declared.Command.the-variants.{NoOperation, Seek, SetMask, SetSector, SearchId, ReadHome, ReadRecord, SearchIdMultitrack, ReadMultitrack, Unlisted}
 use Rattle.drive.specs.Command.{codes, lookUp, commandOf}
 use Rattle.drive.specs.Drive.{addressBytes, identifier, countArea}
 use Rattle.drive.specs.Step.{included, bytesOf}
-use Rattle.read_bytes.specs.Bytes.{AreBytes, Counted, from, to}
+use Rattle.read_bytes.specs.Bytes.{AreBytes, Counted, from, to, ReadsRecord}
 
 -- ---- the reads
 
@@ -39,9 +40,11 @@ OfRead P SetSector = Unit {0}
 OfRead P SearchId = Unit {0}
 OfRead P ReadHome = Unit {0}
 OfRead P (ReadRecord r) = P r
+OfRead P SearchIdMultitrack = Unit {0}
+OfRead P (ReadMultitrack r) = P r
 OfRead P Unlisted = Unit {0}
 
--- what holds for 06, 0E, 12 and 1E holds for each read that the drive has
+-- what holds for 06, 0E, 12 and 1E holds for each read that the drive has, multitrack ones too
 module _ (P : Read → Type 0) (a : P (readOf true false false true)) (b : P (readOf true false true true))
     (c : P (readOf false true false false)) (d : P (readOf false true true true)) where
   each-code : (code : ℕ) → OfRead P (commandOf code)
@@ -56,10 +59,16 @@ module _ (P : Read → Type 0) (a : P (readOf true false false true)) (b : P (re
       (both (OfRead P) (eqb 0x0e code) b
       (both (OfRead P) (eqb 0x12 code) c
       (both (OfRead P) (eqb 0x1e code) d
-      (both (OfRead P) (eqb 0x1a code) tt tt)))))))))
+      (both (OfRead P) (eqb 0x1a code) tt
+      (both (OfRead P) (eqb 0xb1 code) tt
+      (both (OfRead P) (eqb 0x86 code) a
+      (both (OfRead P) (eqb 0x8e code) b
+      (both (OfRead P) (eqb 0x92 code) c
+      (both (OfRead P) (eqb 0x9e code) d tt))))))))))))))
 
-  each-read : (code : ℕ) (r : Read) → commandOf code ≡ ReadRecord r → P r
-  each-read code r e = subst (OfRead P) e (each-code code)
+  each-read : (code : ℕ) (r : Read) → ReadsRecord code r → P r
+  each-read code r (inl e) = subst (OfRead P) e (each-code code)
+  each-read code r (inr e) = subst (OfRead P) e (each-code code)
 
 -- ---- parts
 
@@ -157,11 +166,11 @@ module _ (s : List ℕ) (p : Place) (w : Within s p) (k : Counted s p) (small : 
         part-joined s (p .key - 8) (p .body) (p .next) (omega (arith, w .key-first)) (w .body-first),
       )
 
-  pub bytes-part : (code : ℕ) (r : Read) → commandOf code ≡ ReadRecord r → bytesOf r (recordFrom s p) ≡ part s (from r p) (to r p)
+  pub bytes-part : (code : ℕ) (r : Read) → ReadsRecord code r → bytesOf r (recordFrom s p) ≡ part s (from r p) (to r p)
   bytes-part = each-read (Joined s p) data-read key-read count-read whole-read
 
 module _ (s : List ℕ) (p : Place) (w : Within s p) where
-  pub part-inside : (code : ℕ) (r : Read) → commandOf code ≡ ReadRecord r → (from r p ≤ to r p) × (to r p ≤ length s)
+  pub part-inside : (code : ℕ) (r : Read) → ReadsRecord code r → (from r p ≤ to r p) × (to r p ≤ length s)
   unfolding from to pick
   part-inside =
       let more : p .key ≤ p .body = w .key-first in
@@ -173,7 +182,7 @@ module _ (s : List ℕ) (p : Place) (w : Within s p) where
       (omega arith, omega arith)
       (omega arith, omega arith)
 
-  pub part-short : (code : ℕ) (r : Read) → commandOf code ≡ ReadRecord r → to r p - from r p ≤ 8 + (p .next - p .key)
+  pub part-short : (code : ℕ) (r : Read) → ReadsRecord code r → to r p - from r p ≤ 8 + (p .next - p .key)
   unfolding from to pick
   part-short =
       let more : p .key ≤ p .body = w .key-first in

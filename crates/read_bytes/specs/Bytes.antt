@@ -1,12 +1,15 @@
 -- Where the bytes of a read stand in an image: a record's count area, key and data lie there behind each other.
 use Prim.Native.Nat.{ℕ, _+_, _-_, _<_}
 use mathlib.Core.Path.{_≡_}
+use mathlib.Core.Logic.{_⊎_}
 use mathlib.Core.List.{List}
 use lib.ListN.{getD}
 use Rattle.base.specs.Choice.{pick}
 use Rattle.base.specs.Bytes.{be16At}
 use Rattle.pack.specs.declared.Place.{Place}
 use Rattle.drive.specs.declared.Read.{Read}
+use Rattle.drive.specs.declared.Command.the-variants.{ReadRecord, ReadMultitrack}
+use Rattle.drive.specs.Command.{commandOf}
 
 -- numbers that are bytes
 abbrev pub AreBytes : List ℕ → Type 0
@@ -29,3 +32,7 @@ from k p = pick (k .counts) (p .key - 8) (pick (k .keys) (p .key) (p .body))
 -- the end of the data where they are read, else the end of the count area
 unfoldable pub to : Read → Place → ℕ
 to k p = pick (k .datas) (p .next) (p .key)
+
+-- a code of a read of a record, on one track or over several
+abbrev pub ReadsRecord : ℕ → Read → Type 0
+ReadsRecord code r = (commandOf code ≡ ReadRecord r) ⊎ (commandOf code ≡ ReadMultitrack r)

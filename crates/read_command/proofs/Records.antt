@@ -25,13 +25,11 @@ use Rattle.image.proofs.Sound.{track-sound, RecordSays, record-says, number-fin
 use Rattle.faults.specs.Faults.{Fault, naming, soundFaults}
 use Rattle.faults.proofs.Naming.{named-sound, Says, says}
 use Rattle.drive.specs.declared.Read.{Read}
-use Rattle.drive.specs.declared.Command.the-variants.{ReadRecord}
-use Rattle.drive.specs.Command.{commandOf}
 use Rattle.drive.specs.Drive.{noRecord, countArea}
 use Rattle.drive.specs.Step.{included, bytesOf}
 use Rattle.position.specs.Standing.{Belongs}
 use Rattle.read_end.specs.ReadEnd.{PlaceLow}
-use Rattle.read_bytes.specs.Bytes.{AreBytes, Counted, from, to}
+use Rattle.read_bytes.specs.Bytes.{AreBytes, Counted, from, to, ReadsRecord}
 use Rattle.read_bytes.proofs.Counted.{counted}
 use Rattle.read_bytes.proofs.Parts.{bytes-part, part-inside, part-short}
 use Rattle.read_command.specs.Reads.{Begun, Lies, FaultsInside}
@@ -76,7 +74,7 @@ module _ (image : List ℕ) (x : Place) (whole : wellFormed lastCylinder image �
   unfolding recordFrom
   data-length = length-part image (x .body) (x .next) (lies .within .inside)
 
-  record-short : (code : ℕ) (k : Read) → commandOf code ≡ ReadRecord k → to k x - from k x ≤ 16384
+  record-short : (code : ℕ) (k : Read) → ReadsRecord code k → to k x - from k x ≤ 16384
   unfolding recordFrom
   record-short code k e =
       let w = lies .within in
@@ -86,7 +84,7 @@ module _ (image : List ℕ) (x : Place) (whole : wellFormed lastCylinder image �
       let n = part-short image x w code k e in
       omega (arith, w .key-first, w .body-first)
 
-  module _ (code : ℕ) (k : Read) (e : commandOf code ≡ ReadRecord k) (m n : ℕ) (f : m ≡ from k x) (g : n ≡ to k x) where
+  module _ (code : ℕ) (k : Read) (e : ReadsRecord code k) (m n : ℕ) (f : m ≡ from k x) (g : n ≡ to k x) where
     pub bytes-are : AreBytes image → bytesOf k y ≡ part image m n
     bytes-are small = bytes-part image x (lies .within) (counted image (lies .found .0) x (lies .found .1)) small code k e ∙ ap₂ (part image) (sym f) (sym g)
 

@@ -18,11 +18,10 @@ ghost use Rattle.address.specs.Order.{lastCylinder};
 ghost use Rattle.image.specs.Image.{wellFormed};
 ghost use Rattle.faults.specs.FaultAt.{faultFrom};
 ghost use Rattle.pack.specs.Places.{recordFrom};
-ghost use Rattle.drive.specs.declared.Command.the-variants.{ReadRecord};
-ghost use Rattle.drive.specs.Command.{commandOf};
 ghost use Rattle.drive.specs.Step as Step;
 ghost use Rattle.position.specs.Standing.{driveOf, Standing};
 ghost use Rattle.command.specs.Answer.{Kept, KeptWith, KeptAlways};
+ghost use Rattle.read_bytes.specs.Bytes.{ReadsRecord};
 ghost use Rattle.read_end.specs.ReadEnd.{PlaceLow};
 ghost use Rattle.read_command.specs.Reads.{Begun, Ready, Lies, FaultTaken, FaultsInside, Ends, Carries, ReadsFaulted, ReadsBytes, planOf, recordPlan, Homes};
 
@@ -180,7 +179,7 @@ fn read_at(
 ) -> Answer
     requires { ⌜ Ready (now chain) (now program) (now storage) l c ⌝ }
     requires { ⌜ Begun (now chain) (now program) (now image) (now faults) ⌝ }
-    requires { ⌜ commandOf (c .command) ≡ ReadRecord k ⌝ }
+    requires { ⌜ ReadsRecord (c .command) k ⌝ }
     requires { ⌜ Lies (now image) x ⌝ }
     ensures { λ r.
         let before = now (storage .entry) in
@@ -205,7 +204,7 @@ fn read_at(
     )
 }
 
-// A read of a record: 06, 0E, 12 or 1E.
+// A read of a record from where the drive stands: 06, 0E, 12 or 1E, and 86, 8E, 92 or 9E from where they reach.
 pub fn read_record(
     chain: &[u8],
     program: &[u8],
@@ -219,7 +218,7 @@ pub fn read_record(
 ) -> Answer
     requires { ⌜ Ready (now chain) (now program) (now storage) l c ⌝ }
     requires { ⌜ Begun (now chain) (now program) (now image) (now faults) ⌝ }
-    requires { ⌜ commandOf (c .command) ≡ ReadRecord k ⌝ }
+    requires { ⌜ ReadsRecord (c .command) k ⌝ }
     requires { ⌜ Standing (now image) d ⌝ }
     ensures { λ r.
         let before = now (storage .entry) in

@@ -21,23 +21,24 @@ use Rattle.channel.specs.declared.Csw.{Csw}
 use Rattle.channel.specs.declared.Location.{Location}
 use Rattle.channel.specs.Ccw.{addressOf}
 use Rattle.drive.specs.declared.Command.{Command}
-use Rattle.drive.specs.declared.Command.the-variants.{NoOperation, Seek, SetMask, SetSector, SearchId, ReadHome, ReadRecord, Unlisted}
+use Rattle.drive.specs.declared.Command.the-variants.{NoOperation, Seek, SetMask, SetSector, SearchId, ReadHome, ReadRecord, SearchIdMultitrack, ReadMultitrack, Unlisted}
 use Rattle.drive.proofs.Command as CommandType
 use Rattle.recovery.specs.Recovery as Recovery
 use Rattle.recovery.specs.Recovery.{readsData, lessUnitCheck, alike}
 
 -- ---- the command
 
-no-record : (x : ℕ) → OneOf (0 ∷ 1 ∷ 2 ∷ 3 ∷ 4 ∷ 5 ∷ 7 ∷ []) x → x ≡ 6 → ⊥
-no-record x (inl e) f = omega arith
-no-record x (inr (inl e)) f = omega arith
-no-record x (inr (inr (inl e))) f = omega arith
-no-record x (inr (inr (inr (inl e)))) f = omega arith
-no-record x (inr (inr (inr (inr (inl e))))) f = omega arith
-no-record x (inr (inr (inr (inr (inr (inl e)))))) f = omega arith
-no-record x (inr (inr (inr (inr (inr (inr e)))))) f = omega arith
+no-record : (x : ℕ) → OneOf (0 ∷ 1 ∷ 2 ∷ 3 ∷ 4 ∷ 5 ∷ 7 ∷ 9 ∷ []) x → (x ≡ 6 → ⊥) × (x ≡ 8 → ⊥)
+no-record x (inl e) = (λ f. omega arith, λ f. omega arith)
+no-record x (inr (inl e)) = (λ f. omega arith, λ f. omega arith)
+no-record x (inr (inr (inl e))) = (λ f. omega arith, λ f. omega arith)
+no-record x (inr (inr (inr (inl e)))) = (λ f. omega arith, λ f. omega arith)
+no-record x (inr (inr (inr (inr (inl e))))) = (λ f. omega arith, λ f. omega arith)
+no-record x (inr (inr (inr (inr (inr (inl e)))))) = (λ f. omega arith, λ f. omega arith)
+no-record x (inr (inr (inr (inr (inr (inr (inl e))))))) = (λ f. omega arith, λ f. omega arith)
+no-record x (inr (inr (inr (inr (inr (inr (inr e))))))) = (λ f. omega arith, λ f. omega arith)
 
-pub no-data : (k : Command) → OneOf (0 ∷ 1 ∷ 2 ∷ 3 ∷ 4 ∷ 5 ∷ 7 ∷ []) (Declared.tagOf CommandType.the-type k) → false ≡ readsData k
+pub no-data : (k : Command) → OneOf (0 ∷ 1 ∷ 2 ∷ 3 ∷ 4 ∷ 5 ∷ 7 ∷ 9 ∷ []) (Declared.tagOf CommandType.the-type k) → false ≡ readsData k
 unfolding readsData
 no-data NoOperation h = refl
 no-data Seek h = refl
@@ -45,8 +46,10 @@ no-data SetMask h = refl
 no-data SetSector h = refl
 no-data SearchId h = refl
 no-data ReadHome h = refl
+no-data SearchIdMultitrack h = refl
 no-data Unlisted h = refl
-no-data (ReadRecord k) h = absurd (no-record 6 h refl)
+no-data (ReadRecord k) h = absurd (no-record 6 h .0 refl)
+no-data (ReadMultitrack k) h = absurd (no-record 8 h .1 refl)
 
 -- ---- the CSW
 

@@ -97,6 +97,7 @@ pub fn reads_data(k: Command) -> bool
 {
     match k {
         Command::ReadRecord(m) => m.datas,
+        Command::ReadMultitrack(m) => m.datas,
         _ => false,
     }
 }

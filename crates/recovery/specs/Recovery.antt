@@ -1,4 +1,4 @@
--- Recovery from one report (document 01, "Actions built" and "The questions").
+-- Recovery from one report (document 01, "Actions built" and "The questions"; document 02, multitrack reads).
 use Prim.Native.Nat.{ℕ, _+_, _-_}
 use mathlib.Core.Bool.{Bool, true, false, _&&_, _||_, not}
 use mathlib.Core.Option.{Option, none, some}
@@ -24,12 +24,12 @@ use Rattle.channel.specs.Ccw.{Lent, chainsCommand, isTic, addressOf, next, fetc
 use Rattle.channel.specs.Csw.{unitCheck}
 use Rattle.channel.specs.Walk.{Walk, walked, checked, walk, readable, incorrectLength}
 use Rattle.drive.specs.declared.Command.{Command}
-use Rattle.drive.specs.declared.Command.the-variants.{NoOperation, Seek, SetMask, SetSector, SearchId, ReadHome, ReadRecord, Unlisted}
+use Rattle.drive.specs.declared.Command.the-variants.{NoOperation, Seek, SetMask, SetSector, SearchId, ReadHome, ReadRecord, SearchIdMultitrack, ReadMultitrack, Unlisted}
 use Rattle.drive.specs.declared.FileMask.{FileMask}
 use Rattle.drive.specs.declared.FileMask.the-variants.{Unset, Set}
 use Rattle.drive.specs.Command.{commandOf}
 use Rattle.drive.specs.Step.{sought, spread}
-use Rattle.restart.specs.Restart.{ccwBytes, programOf, searchProgram, restartArgumentsOf, searchArguments}
+use Rattle.restart.specs.Restart.{ccwBytes, programOf, countFor, searchProgram, restartArgumentsOf, searchArguments}
 use Rattle.recovery.specs.Table.{Row, actionFor}
 use Rattle.recovery.specs.Report.{Report}
 use Rattle.recovery.specs.Correct.{corrected}
@@ -71,7 +71,7 @@ onNext (Broken l) y f = y
 onNext (Got (Restart a) c) y f = y
 onNext (Got (Chain a) c) y f = f a c
 
--- "tag 12 a 06, 0E or 1E": a command that reads a data area
+-- "tag 12 a 06, 0E or 1E", "Question 9 takes 86, 8E and 9E too": a command that reads a data area
 unfoldable pub readsData : Command → Bool
 readsData NoOperation = false
 readsData Seek = false
@@ -81,6 +81,8 @@ readsData SearchId = false
 readsData ReadHome = false
 readsData Unlisted = false
 readsData (ReadRecord k) = k .datas
+readsData SearchIdMultitrack = false
+readsData (ReadMultitrack k) = k .datas
 
 -- "mask bit 7 (PCI fetch mode) on"
 unfoldable pub fetchMode : FileMask → Bool
@@ -149,6 +151,8 @@ isSeek SearchId = false
 isSeek ReadHome = false
 isSeek Unlisted = false
 isSeek (ReadRecord k) = false
+isSeek SearchIdMultitrack = false
+isSeek (ReadMultitrack k) = false
 
 -- "tag 14 present with first two bytes 0, cylinder and head on the pack", of a pack with this last cylinder
 unfoldable pub userTrack : (last : ℕ) → Option (List ℕ) → Option Address
@@ -170,7 +174,7 @@ module _ (g : Given) (r : Report) (st : List ℕ) where
   searchRestart ps to c =
       pick (seekAllowed g (cutTrack (r .sense)))
       (restarts (pick (bitOn 3 (c .command)) five fiveA)
-      (searchProgram (r .mask) (not (bitOn 3 (c .command))) to)
+      (searchProgram (r .mask) (countFor (c .command)) to)
       (searchArguments (cutTrack (r .sense)) (r .mask) (getD (r .sense) 13 0) (getD (r .sense) 12 0))
       (correction (r .sense) ps st))
       actionTwo

@@ -1,7 +1,6 @@
 -- Document 01, "Proved cases (T1 to T12)", as one table.
 use Prim.Native.Nat.{ℕ}
 use mathlib.Core.Path.{_≡_}
-use mathlib.Core.Bool.{false}
 use mathlib.Core.Option.{Option, none, some}
 use mathlib.Core.List.{List, [], _∷_, _++_}
 use lib.ListN.{set, replicate}
@@ -10,6 +9,7 @@ use Rattle.questions.specs.declared.Question.the-variants as Question
 use Rattle.address.specs.Order.{lastCylinder}
 use Rattle.channel.specs.declared.Csw.{Csw}
 use Rattle.drive.specs.declared.FileMask.the-variants.{Unset}
+use Rattle.restart.specs.declared.ReadCount.the-variants.{Omitted}
 use Rattle.restart.specs.Restart.{ccwBytes, programOf, searchProgram, restartArgumentsOf, searchArguments}
 use Rattle.recovery.specs.Table.{rows, actionFor}
 use Rattle.recovery.specs.Report.{Report}
@@ -101,7 +101,7 @@ unfoldable pub cases : List Case
 cases =
     -- "T1 08 00 40→5": the three pattern bytes are taken out, and the restart goes on with the command behind the read
     bySense 0x08 0x00 0x40 0 (some 5)
-    (restarts five (searchProgram Unset false 8) (searchArguments (record { cylinder = 0; head = 1 }) Unset 0 1) (1 ∷ 2 ∷ 4 ∷ 0 ∷ []))
+    (restarts five (searchProgram Unset Omitted 8) (searchArguments (record { cylinder = 0; head = 1 }) Unset 0 1) (1 ∷ 2 ∷ 4 ∷ 0 ∷ []))
     -- "T2 08 01 40→refusal 7; T3 08 80 40→1; T4 08 00 00→refusal 6"
     ∷ bySense 0x08 0x01 0x40 0 (some 6) (refused Question.Action)
     ∷ bySense 0x08 0x80 0x40 0 (some 1) actionOne

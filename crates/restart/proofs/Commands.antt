@@ -5,12 +5,14 @@
 --   sectorAt .. lastAt        their places
 --   fetches                   what is fetched at the places that every variant has
 --   fetch-mask, fetch-count   and at the others
+--   fetch-count-multitrack
 --   execute-seek              the drive is at the index of the track
 --   execute-mask              the mask is set
 --   execute-sector            nothing but the place changes
 --   execute-search            the next count area is passed, and equal skips one CCW
---   execute-count             the next record other than R0 is taken, and its bytes go nowhere
---   carry-count               so that storage stays
+--   carry-count               a read count takes the next record other than R0, and its bytes go nowhere
+--   execute-count             so does a 12
+--   execute-count-multitrack  and a 92, from where it reaches
 use Prim.Native.Nat.{ℕ, _+_, _*_, _/_, _%_, _<_}
 use mathlib.Core.Path.{_≡_, refl, ap}
 use mathlib.Core.Bool.{Bool, true, false}
@@ -36,6 +38,7 @@ use Rattle.channel.specs.Ccw as Ccw
 use Rattle.channel.specs.Ccw.{Lent, fetch}
 use Rattle.channel.specs.Store.{put, store}
 use Rattle.channel.specs.Walk as Walk
+use Rattle.drive.specs.declared.Read.{Read}
 use Rattle.drive.specs.declared.FileMask.{FileMask}
 use Rattle.drive.specs.declared.FileMask.the-variants.{Unset, Set}
 use Rattle.drive.specs.Drive as Drive
@@ -43,12 +46,14 @@ use Rattle.drive.specs.Drive.{Drive, noRecord}
 use Rattle.drive.specs.Command as Command
 use Rattle.drive.specs.Step as Step
 use Rattle.drive.specs.Step.{State, Setting, execute, answer, moves, carry}
+use Rattle.restart.specs.declared.ReadCount.{ReadCount}
+use Rattle.restart.specs.declared.ReadCount.the-variants.{Omitted, Single, Multitrack}
 use Rattle.restart.specs.Restart as Program
 use Rattle.restart.specs.Restart.{searchProgram, searchArguments}
 
 -- ---- settings, states, drives
 
-abbrev pub restarted : Setting → Address → FileMask → (sector r : ℕ) → (counts : Bool) → (to : ℕ) → Setting
+abbrev pub restarted : Setting → Address → FileMask → (sector r : ℕ) → (counts : ReadCount) → (to : ℕ) → Setting
 restarted w a m sector r counts to = record {
   last = w .last;
   pack = w .pack;
@@ -89,8 +94,13 @@ sectorCcw = ccw 0x23 0x2007 0x40 1
 abbrev pub searchCcw : Ccw
 searchCcw = ccw 0x31 0x2008 0x40 5
 
-abbrev pub countCcw : Ccw
-countCcw = ccw 0x12 0 0x50 8
+-- of 12 and of 92
+abbrev pub countCcw : (command : ℕ) → Ccw
+countCcw command = ccw command 0 0x50 8
+
+-- what 12 and 92 read
+abbrev pub countAlone : Read
+countAlone = record { just = false; counts = true; keys = false; datas = false }
 
 abbrev pub ticCcw : ℕ → Ccw
 ticCcw to = ccw 0x08 to 0 0
@@ -105,9 +115,10 @@ searchAt m = sectorAt m + 8
 abbrev pub countAt : FileMask → ℕ
 countAt m = searchAt m + 8 + 8
 
-abbrev pub lastAt : FileMask → (counts : Bool) → ℕ
-lastAt m true = countAt m + 8
-lastAt m false = countAt m
+abbrev pub lastAt : FileMask → (counts : ReadCount) → ℕ
+lastAt m Omitted = countAt m
+lastAt m Single = countAt m + 8
+lastAt m Multitrack = countAt m + 8
 
 -- ---- bytes
 
@@ -129,7 +140,7 @@ pick-inside f false x y = refl
 -- ---- fetching
 
 -- what an area's places hold if it is the restart program, with or without a mask, with or without the read count
-pub record Fetches (p : Lent) (m : FileMask) (counts : Bool) (to : ℕ) : Type 0 where
+pub record Fetches (p : Lent) (m : FileMask) (counts : ReadCount) (to : ℕ) : Type 0 where
   pub seek : fetch p (Restart 0) ≡ some seekCcw
   pub sector : fetch p (Restart (sectorAt m)) ≡ some sectorCcw
   pub search : fetch p (Restart (searchAt m)) ≡ some searchCcw
@@ -137,29 +148,37 @@ pub record Fetches (p : Lent) (m : FileMask) (counts : Bool) (to : ℕ) : Type 0
   pub last : fetch p (Restart (lastAt m counts)) ≡ some (ticCcw to)
 
 module _ (w : Setting) (a : Address) (sector r to : ℕ) where
-  abbrev lent : FileMask → Bool → Lent
+  abbrev lent : FileMask → ReadCount → Lent
   lent m counts = restarted w a m sector r counts to .lent
 
-  pub fetches : (m : FileMask) (counts : Bool) → Fetches (lent m counts) m counts to
+  pub fetches : (m : FileMask) (counts : ReadCount) → Fetches (lent m counts) m counts to
   unfolding pick two three Ccw.fetch Ccw.fetchIn Ccw.ccwAt Program.ccwBytes Program.ticTo Program.padded Program.maskCcw Program.programOf Program.searchAddress Program.countCcw Program.searching Program.searchProgram
-  fetches Unset true = record { seek = refl; sector = refl; search = refl; again = refl; last = tic-bytes to }
-  fetches Unset false = record { seek = refl; sector = refl; search = refl; again = refl; last = tic-bytes to }
-  fetches (Set b) true = record { seek = refl; sector = refl; search = refl; again = refl; last = tic-bytes to }
-  fetches (Set b) false = record { seek = refl; sector = refl; search = refl; again = refl; last = tic-bytes to }
+  fetches Unset Omitted = record { seek = refl; sector = refl; search = refl; again = refl; last = tic-bytes to }
+  fetches Unset Single = record { seek = refl; sector = refl; search = refl; again = refl; last = tic-bytes to }
+  fetches Unset Multitrack = record { seek = refl; sector = refl; search = refl; again = refl; last = tic-bytes to }
+  fetches (Set b) Omitted = record { seek = refl; sector = refl; search = refl; again = refl; last = tic-bytes to }
+  fetches (Set b) Single = record { seek = refl; sector = refl; search = refl; again = refl; last = tic-bytes to }
+  fetches (Set b) Multitrack = record { seek = refl; sector = refl; search = refl; again = refl; last = tic-bytes to }
 
-  pub fetch-mask : (b : ℕ) (counts : Bool) → fetch (lent (Set b) counts) (Restart 8) ≡ some maskCcw
+  pub fetch-mask : (b : ℕ) (counts : ReadCount) → fetch (lent (Set b) counts) (Restart 8) ≡ some maskCcw
   unfolding pick two three Ccw.fetch Ccw.fetchIn Ccw.ccwAt Program.ccwBytes Program.ticTo Program.padded Program.maskCcw Program.programOf Program.searchAddress Program.countCcw Program.searching Program.searchProgram
-  fetch-mask b true = refl
-  fetch-mask b false = refl
+  fetch-mask b Omitted = refl
+  fetch-mask b Single = refl
+  fetch-mask b Multitrack = refl
 
-  pub fetch-count : (m : FileMask) → fetch (lent m true) (Restart (countAt m)) ≡ some countCcw
+  pub fetch-count : (m : FileMask) → fetch (lent m Single) (Restart (countAt m)) ≡ some (countCcw 0x12)
   unfolding pick two three Ccw.fetch Ccw.fetchIn Ccw.ccwAt Program.ccwBytes Program.ticTo Program.padded Program.maskCcw Program.programOf Program.searchAddress Program.countCcw Program.searching Program.searchProgram
   fetch-count Unset = refl
   fetch-count (Set b) = refl
 
+  pub fetch-count-multitrack : (m : FileMask) → fetch (lent m Multitrack) (Restart (countAt m)) ≡ some (countCcw 0x92)
+  unfolding pick two three Ccw.fetch Ccw.fetchIn Ccw.ccwAt Program.ccwBytes Program.ticTo Program.padded Program.maskCcw Program.programOf Program.searchAddress Program.countCcw Program.searching Program.searchProgram
+  fetch-count-multitrack Unset = refl
+  fetch-count-multitrack (Set b) = refl
+
   -- ---- executing, by the program of a mask m and at a place k of it
 
-  module _ (m : FileMask) (counts : Bool) (k : ℕ) (st : List ℕ) where
+  module _ (m : FileMask) (counts : ReadCount) (k : ℕ) (st : List ℕ) where
     abbrev w′ : Setting
     w′ = restarted w a m sector r counts to
 
@@ -190,19 +209,35 @@ module _ (w : Setting) (a : Address) (sector r to : ℕ) where
           rw (there, lt-ltb j (length (t .records)), own, same-track a r ((getD (t .records) j noRecord) .r))
           (pick-inside (λ to. answer (on to (placed a n (j + 1) true))) (eqb r ((getD (t .records) j noRecord) .r)) (k + 8 + 8) (k + 8))
 
-      pub execute-count : trackIn (w .pack) a ≡ some t → ahead t j < length (t .records)
-          → execute w′ (Restart k) countCcw (placed a n j passed) st
+    -- a read count, 12 or 92, from a drive on the track t: the next record other than R0 is taken, and its bytes go nowhere
+    module _ (command : ℕ) (b : Address) (n : FileMask) (t : Track) (j : ℕ) (passed : Bool) where
+      read-count : trackIn (w .pack) b ≡ some t → ahead t j < length (t .records)
+          → Step.planRead (Restart k) (countCcw command) (placed b n j passed) st (w .pack) (w′ .lent) countAlone
           ≡ moves (record {
             first = Restart k;
             bytes = Drive.countArea (getD (t .records) (ahead t j) noRecord);
             area = Step.nothing;
-            after = placed a n (ahead t j + 1) true;
-            walk = Walk.walked (replicate 8 none) (Restart k) countCcw 0 false;
+            after = placed b n (ahead t j + 1) true;
+            walk = Walk.walked (replicate 8 none) (Restart k) (countCcw command) 0 false;
           })
-      unfolding pick opt two bitOn Ccw.chainsData Ccw.skips Ccw.formed Ccw.storageInside Drive.movedPast Drive.taken Drive.addressBytes Drive.identifier Drive.countArea Walk.behindPlace Walk.placeUnder Walk.readable Walk.walk Command.codes Command.lookUp Command.commandOf Step.included Step.bytesOf Step.areaOf Step.planTransfer Step.planRecord Step.planPlace Step.planRead Step.sound Step.perform Step.execute
-      execute-count there inside = rw (there, lt-ltb (ahead t j) (length (t .records)))
+      unfolding pick opt two bitOn Ccw.chainsData Ccw.skips Drive.movedPast Drive.taken Drive.addressBytes Drive.identifier Drive.countArea Walk.behindPlace Walk.placeUnder Walk.walk Step.included Step.bytesOf Step.areaOf Step.planTransfer Step.planRecord Step.planPlace Step.planRead
+      read-count there inside = rw (there, lt-ltb (ahead t j) (length (t .records)))
 
-      pub carry-count : (fs : List Fault) → trackIn (w .pack) a ≡ some t → ahead t j < length (t .records)
-          → carry fs st (execute w′ (Restart k) countCcw (placed a n j passed) st) ≡ on (k + 8) (placed a n (ahead t j + 1) true)
+      pub carry-count : (fs : List Fault) → trackIn (w .pack) b ≡ some t → ahead t j < length (t .records)
+          → carry fs st (Step.planRead (Restart k) (countCcw command) (placed b n j passed) st (w .pack) (w′ .lent) countAlone)
+          ≡ on (k + 8) (placed b n (ahead t j + 1) true)
       unfolding pick two bitOn put store Ccw.chainsData Ccw.chainsCommand Ccw.suppresses Ccw.next Drive.addressBytes Drive.identifier Drive.countArea Walk.incorrectLength Step.onward Step.settled Step.transferred Step.carry
-      carry-count fs there inside = rw (execute-count there inside)
+      carry-count fs there inside = rw (read-count there inside)
+
+    pub execute-count : (d : Drive)
+        → execute w′ (Restart k) (countCcw 0x12) d st ≡ Step.planRead (Restart k) (countCcw 0x12) d st (w .pack) (w′ .lent) countAlone
+    unfolding pick bitOn Ccw.skips Ccw.formed Ccw.storageInside Walk.readable Command.codes Command.lookUp Command.commandOf Step.sound Step.perform Step.execute
+    execute-count d = refl
+
+    -- from wherever a 92 reaches
+    pub execute-count-multitrack : (d : Drive)
+        → execute w′ (Restart k) (countCcw 0x92) d st
+        ≡ Step.onReached (Step.readFrom (w .pack) 19 d) (Step.refuse (Restart k) (countCcw 0x92) d st)
+        (λ e. Step.planRead (Restart k) (countCcw 0x92) e st (w .pack) (w′ .lent) countAlone)
+    unfolding pick bitOn Ccw.skips Ccw.formed Ccw.storageInside Walk.readable Command.codes Command.lookUp Command.commandOf Step.takeFrom Step.planReadMultitrack Step.sound Step.perform Step.execute
+    execute-count-multitrack d = refl

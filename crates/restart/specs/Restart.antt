@@ -1,13 +1,18 @@
--- Restart programs and their arguments (document 01, "Actions built").
+-- Restart programs and their arguments (document 01, "Actions built"; document 02, the read count of 5A).
 use Prim.Native.Nat.{ℕ}
-use mathlib.Core.Bool.{Bool, true, false}
+use mathlib.Core.Bool.{Bool, _||_}
 use mathlib.Core.List.{List, [], _∷_, _++_}
+use lib.Dec.{eqb}
 use lib.ListN.{take, replicate}
+use Rattle.base.specs.Choice.{pick}
+use Rattle.base.specs.Bits.{bitOn}
 use Rattle.base.specs.Bytes.{two, three}
 use Rattle.address.specs.declared.Address.{Address}
 use Rattle.drive.specs.declared.FileMask.{FileMask}
 use Rattle.drive.specs.declared.FileMask.the-variants.{Unset, Set}
 use Rattle.drive.specs.Drive.{addressBytes}
+use Rattle.restart.specs.declared.ReadCount.{ReadCount}
+use Rattle.restart.specs.declared.ReadCount.the-variants.{Omitted, Single, Multitrack}
 
 -- "CCW: command, address 3, flags .., ignored byte, count 2"; the ignored byte is 0
 unfoldable pub ccwBytes : (command address flags count : ℕ) → List ℕ
@@ -37,17 +42,32 @@ unfoldable pub searchAddress : FileMask → ℕ
 searchAddress Unset = 0x1010
 searchAddress (Set m) = 0x1018
 
--- 5A: "a read count (12, flags 50, count 8) stands before the last TIC"
-unfoldable pub countCcw : Bool → List ℕ
-countCcw true = ccwBytes 0x12 0 0x50 8
-countCcw false = []
+-- the place in the restart program of the CCW behind the TIC to the search
+unfoldable pub countPlace : FileMask → ℕ
+countPlace Unset = 0x20
+countPlace (Set m) = 0x28
 
--- "search ID (sense 8 to 12), TIC to that search", and with `counts` the read count of 5A
-unfoldable pub searching : FileMask → Bool → List ℕ
+-- "86 or 8E", of a command's code
+unfoldable pub isMultitrackData : ℕ → Bool
+isMultitrackData code = eqb code 0x86 || eqb code 0x8e
+
+-- The read count before the user's next command, of this code: "If that CCW's command has bit 3 off (5A), a read count .. stands before the
+-- last TIC."; "In 5A the read count takes code 92 when the next command is 86 or 8E."
+unfoldable pub countFor : ℕ → ReadCount
+countFor code = pick (bitOn 3 code) Omitted (pick (isMultitrackData code) Multitrack Single)
+
+-- "a read count (12, flags 50, count 8)", and 92 with the same flags and count
+unfoldable pub countCcw : ReadCount → List ℕ
+countCcw Omitted = []
+countCcw Single = ccwBytes 0x12 0 0x50 8
+countCcw Multitrack = ccwBytes 0x92 0 0x50 8
+
+-- "search ID (sense 8 to 12), TIC to that search", and the read count of 5A
+unfoldable pub searching : FileMask → ReadCount → List ℕ
 searching m counts = ccwBytes 0x31 0x2008 0x40 5 ++ ticTo (searchAddress m) ++ countCcw counts
 
--- the restart program of 5, and with `counts` of 5A
-unfoldable pub searchProgram : FileMask → Bool → ℕ → List ℕ
+-- the restart program of 5, and with a read count that of 5A
+unfoldable pub searchProgram : FileMask → ReadCount → ℕ → List ℕ
 searchProgram m counts to = programOf m (searching m counts) to
 
 -- a mask that was not set is 0

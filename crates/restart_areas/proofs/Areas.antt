@@ -4,7 +4,6 @@
 --   arguments-begun, arguments-id   the arguments of seek, mask and sector, and with an ID
 use Prim.Native.Nat.{ℕ, _+_}
 use mathlib.Core.Path.{_≡_, refl}
-use mathlib.Core.Bool.{Bool, true, false}
 use mathlib.Core.List.{List, [], _∷_}
 use lib.ListN.{length, replicate}
 use Rattle.base.specs.Bytes.{two, three}
@@ -12,6 +11,8 @@ use Rattle.address.specs.declared.Address.{Address}
 use Rattle.drive.specs.declared.FileMask.{FileMask}
 use Rattle.drive.specs.declared.FileMask.the-variants.{Unset, Set}
 use Rattle.drive.specs.Drive.{addressBytes}
+use Rattle.restart.specs.declared.ReadCount.{ReadCount}
+use Rattle.restart.specs.declared.ReadCount.the-variants.{Omitted, Single, Multitrack}
 use Rattle.restart.specs.Restart.{ccwBytes, ticTo, padded, maskCcw, programOf, searchAddress, countCcw, searching, searchProgram, maskByte, restartArgumentsOf, searchArguments}
 use Rattle.restart_areas.specs.Placed.{placed, begun, begunTo}
 
@@ -32,13 +33,20 @@ module _ (p : List ℕ) (h : length p ≡ 64) {p0 p1 : List ℕ} (e0 : p0 ≡ re
 searched : FileMask → List ℕ
 searched m = placed (placed (begun m) (begunTo m) (ccwBytes 0x31 0x2008 0x40 5)) (begunTo m + 8) (ccwBytes 0x08 (0x1000 + begunTo m) 0 0)
 
-counts-is : (m : FileMask) (to : ℕ)
-    → placed (placed (searched m) (begunTo m + 16) (ccwBytes 0x12 0 0x50 8)) (begunTo m + 24) (ccwBytes 0x08 to 0 0) ≡ searchProgram m true to
-unfolding searched placed begun begunTo searchProgram programOf padded maskCcw searching searchAddress countCcw ticTo ccwBytes two three
-counts-is Unset to = refl
-counts-is (Set x) to = refl
+-- the read count of a restart has this code
+pub data Counts : ReadCount → ℕ → Type 0 where
+  by-12 : Counts Single 0x12
+  by-92 : Counts Multitrack 0x92
 
-without-is : (m : FileMask) (to : ℕ) → placed (searched m) (begunTo m + 16) (ccwBytes 0x08 to 0 0) ≡ searchProgram m false to
+counts-is : (m : FileMask) (to : ℕ) (counts : ReadCount) (command : ℕ) → Counts counts command
+    → placed (placed (searched m) (begunTo m + 16) (ccwBytes command 0 0x50 8)) (begunTo m + 24) (ccwBytes 0x08 to 0 0) ≡ searchProgram m counts to
+unfolding searched placed begun begunTo searchProgram programOf padded maskCcw searching searchAddress countCcw ticTo ccwBytes two three
+counts-is Unset to counts command by-12 = refl
+counts-is Unset to counts command by-92 = refl
+counts-is (Set x) to counts command by-12 = refl
+counts-is (Set x) to counts command by-92 = refl
+
+without-is : (m : FileMask) (to : ℕ) → placed (searched m) (begunTo m + 16) (ccwBytes 0x08 to 0 0) ≡ searchProgram m Omitted to
 unfolding searched placed begun begunTo searchProgram programOf padded maskCcw searching searchAddress countCcw ticTo ccwBytes two three
 without-is Unset to = refl
 without-is (Set x) to = refl
@@ -50,14 +58,14 @@ home-is Unset to = refl
 home-is (Set x) to = refl
 
 module _ (m : FileMask) (to at : ℕ) {p0 : List ℕ} (e0 : p0 ≡ begun m) (ea : at ≡ begunTo m) where
-  module _ (counts : Bool) {p1 p2 : List ℕ} (e1 : p1 ≡ placed p0 at (ccwBytes 0x31 0x2008 0x40 5))
+  module _ (counts : ReadCount) {p1 p2 : List ℕ} (e1 : p1 ≡ placed p0 at (ccwBytes 0x31 0x2008 0x40 5))
       (e2 : p2 ≡ placed p1 (at + 8) (ccwBytes 0x08 (0x1000 + at) 0 0)) where
-    pub with-counts : {p3 p4 : List ℕ} → counts ≡ true → p3 ≡ placed p2 (at + 16) (ccwBytes 0x12 0 0x50 8)
+    pub with-counts : {p3 p4 : List ℕ} (command : ℕ) → Counts counts command → p3 ≡ placed p2 (at + 16) (ccwBytes command 0 0x50 8)
         → p4 ≡ placed p3 (at + 24) (ccwBytes 0x08 to 0 0) → p4 ≡ searchProgram m counts to
     unfolding searched
-    with-counts e e3 e4 = rw (e4, e3, e2, e1, e0, ea, e) (counts-is m to)
+    with-counts command e e3 e4 = rw (e4, e3, e2, e1, e0, ea) (counts-is m to counts command e)
 
-    pub without : {p3 : List ℕ} → counts ≡ false → p3 ≡ placed p2 (at + 16) (ccwBytes 0x08 to 0 0) → p3 ≡ searchProgram m counts to
+    pub without : {p3 : List ℕ} → counts ≡ Omitted → p3 ≡ placed p2 (at + 16) (ccwBytes 0x08 to 0 0) → p3 ≡ searchProgram m counts to
     unfolding searched
     without e e3 = rw (e3, e2, e1, e0, ea, e) (without-is m to)
 

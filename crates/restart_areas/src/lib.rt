@@ -1,6 +1,7 @@
 // The restart areas, byte by byte: a restart program of 64 bytes, and its arguments, 16 bytes. Unused bytes are 0.
 use address::Address;
 use drive::FileMask;
+use restart::ReadCount;
 ghost use mathlib.Core.List.{[]};
 ghost use mathlib.Core.Path.{_≡_};
 ghost use Prim.Native.Nat.{_+_, _<_, _≤_};
@@ -72,8 +73,8 @@ fn begin(program: &mut [u8], mask: FileMask) -> usize
     }
 }
 
-// The restart program of action 5, and with `counts` of 5A: the search for an ID, and a TIC to the chain's CCW at `to`.
-pub fn search_program(program: &mut [u8], mask: FileMask, counts: bool, to: usize)
+// The restart program of action 5, and with a read count of 5A: the search for an ID, and a TIC to the chain's CCW at `to`.
+pub fn search_program(program: &mut [u8], mask: FileMask, counts: ReadCount, to: usize)
     requires { ⌜ length (now program) ≡ 64 ⌝ }
     requires { ⌜ to < 65536 ⌝ }
     ensures { λ _. ⌜ now (program .exit) ≡ searchProgram mask counts to ⌝ }
@@ -81,11 +82,18 @@ pub fn search_program(program: &mut [u8], mask: FileMask, counts: bool, to: usiz
     let at = begin(program, mask);
     put_ccw(program, at, 0x31, 0x2008, 0x40, 5);
     put_ccw(program, at + 8, 0x08, 0x1000 + at, 0, 0);
-    if counts {
-        put_ccw(program, at + 16, 0x12, 0, 0x50, 8);
-        put_ccw(program, at + 24, 0x08, to, 0, 0);
-    } else {
-        put_ccw(program, at + 16, 0x08, to, 0, 0);
+    match counts {
+        ReadCount::Omitted => {
+            put_ccw(program, at + 16, 0x08, to, 0, 0);
+        }
+        ReadCount::Single => {
+            put_ccw(program, at + 16, 0x12, 0, 0x50, 8);
+            put_ccw(program, at + 24, 0x08, to, 0, 0);
+        }
+        ReadCount::Multitrack => {
+            put_ccw(program, at + 16, 0x92, 0, 0x50, 8);
+            put_ccw(program, at + 24, 0x08, to, 0, 0);
+        }
     }
 }
 

@@ -17,7 +17,7 @@ use Rattle.drive.specs.declared.FileMask.{FileMask}
 use Rattle.drive.specs.declared.FileMask.the-variants.{Unset, Set}
 use Rattle.drive.specs.Drive.{addressBytes}
 use Rattle.drive.specs.Step as Step
-use Rattle.command.specs.declared.Check.the-variants.{Rejected, NotFound, Protected}
+use Rattle.command.specs.declared.Check.the-variants.{Rejected, NotFound, Protected, EndOfCylinder}
 use Rattle.command.specs.declared.Status.{Status}
 use Rattle.command.specs.declared.Status.the-variants.{Quiet, Refused}
 use Rattle.command.specs.declared.End.{End}
@@ -37,6 +37,7 @@ status-length Quiet = refl
 status-length (Refused Rejected) = refl
 status-length (Refused NotFound) = refl
 status-length (Refused Protected) = refl
+status-length (Refused EndOfCylinder) = refl
 
 pub cut-length : (k : Cut) → length (Step.cutSense (cutOf k [])) ≡ 24
 unfolding Step.cutSense addressBytes three two

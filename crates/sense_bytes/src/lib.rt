@@ -60,6 +60,7 @@ pub fn put_status(to: &mut [u8], s: Status)
             Check::Rejected => put_check(to, 0x80, 0),
             Check::NotFound => put_check(to, 0, 0x08),
             Check::Protected => put_check(to, 0, 0x04),
+            Check::EndOfCylinder => put_check(to, 0, 0x20),
         },
     }
 }

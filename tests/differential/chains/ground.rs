@@ -9,6 +9,8 @@ use crate::simulator::LAST_CYLINDER;
 pub struct Ground {
     pub image: Vec<u8>,
     pub faults: Vec<u8>,
+    /// Whether chains over it have multitrack commands.
+    pub is_multitrack: bool,
     /// Bytes of storage.
     pub storage: usize,
 }
@@ -27,24 +29,48 @@ const fn at(cylinder: u16, head: u16) -> TrackAddress {
     TrackAddress { cylinder, head }
 }
 
+/// Adjacent heads: where a run starts; up to the last of a cylinder, the next one's first behind it; at
+/// the end of the pack. Each is there once in so many.
+const HEADS: [([TrackAddress; 4], usize); 3] = [
+    ([at(0, 0), at(0, 1), at(0, 2), at(0, 3)], 1),
+    ([at(0, 16), at(0, 17), at(0, 18), at(1, 0)], 2),
+    (
+        [
+            at(LAST_CYLINDER, 15),
+            at(LAST_CYLINDER, 16),
+            at(LAST_CYLINDER, 17),
+            at(LAST_CYLINDER, 18),
+        ],
+        4,
+    ),
+];
+
 pub fn any_track(random: &mut Random) -> TrackAddress {
     random.pick(&TRACKS)
 }
 
 impl Ground {
+    /// Four times in five multitrack.
     pub fn new(random: &mut Random) -> Ground {
         let storage = storage(random);
-        Ground::of(random, storage, put_track)
+        if random.once_in(5) {
+            let image = image(random, put_track);
+            Ground::of(random, storage, image, false)
+        } else {
+            let image = adjacent_heads(random);
+            Ground::of(random, storage, image, true)
+        }
     }
 
     /// Records up to the longest, and storage for most of them.
     pub fn long(random: &mut Random) -> Ground {
         let storage = random.pick(&[4_096, 20_000, 65_535, 65_536]);
-        Ground::of(random, storage, put_long_track)
+        let image = image(random, put_long_track);
+        let is_multitrack = random.once_in(2);
+        Ground::of(random, storage, image, is_multitrack)
     }
 
-    fn of(random: &mut Random, storage: usize, put_track: PutTrack) -> Ground {
-        let image = image(random, put_track);
+    fn of(random: &mut Random, storage: usize, image: Vec<u8>, is_multitrack: bool) -> Ground {
         let pack = generate::decoded(&image);
         let faults = if random.once_in(2) {
             Vec::new()
@@ -54,6 +80,7 @@ impl Ground {
         Ground {
             faults,
             storage,
+            is_multitrack,
             image,
         }
     }
@@ -99,13 +126,36 @@ fn image(random: &mut Random, put_track: PutTrack) -> Vec<u8> {
     image
 }
 
+/// Few records on each head, now and then R0 alone, now and then a hole.
+fn adjacent_heads(random: &mut Random) -> Vec<u8> {
+    let mut image = Vec::new();
+    for (tracks, once_in) in HEADS {
+        if !random.once_in(once_in) {
+            continue;
+        }
+        for track in tracks {
+            if !random.once_in(10) {
+                let others = random.pick(&[0, 0, 1, 1, 2, 2, 3]);
+                put_records(random, &mut image, track, others);
+            }
+        }
+    }
+    image
+}
+
 fn put_track(random: &mut Random, image: &mut Vec<u8>, track: TrackAddress) {
+    let others = random.pick(&[0, 1, 2, 3, 3, 4, 5, 6]);
+    put_records(random, image, track, others);
+}
+
+/// R0 and so many others.
+fn put_records(random: &mut Random, image: &mut Vec<u8>, track: TrackAddress, others: usize) {
     put_home_address(image, track);
     let mut numbers: Vec<u8> = vec![1, 2, 3, 4, 5, random.within(6..=255) as u8];
     if random.once_in(2) {
         random.shuffle(&mut numbers);
     }
-    numbers.truncate(random.pick(&[0, 1, 2, 3, 3, 4, 5, 6]));
+    numbers.truncate(others);
     let (key, data) = random.pick(&[(0, 8), (0, 8), (0, 8), (0, 0), (2, 3)]);
     let (key, data) = (random.bytes(key), random.bytes(data));
     put_record(image, track, 0, &key, &data);

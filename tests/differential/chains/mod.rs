@@ -43,8 +43,8 @@ fn limit(random: &mut Random) -> usize {
 pub fn generated(random: &mut Random, turn: usize) -> (&'static str, GeneratedRun) {
     let of_kind = turn / 16;
     match turn % 16 {
-        0 => ("random bytes", scatter::random_bytes(random)),
-        1 => ("random CCWs", scatter::random_ccws(random)),
+        0 if of_kind % 4 == 0 => ("random bytes", scatter::random_bytes(random)),
+        0 | 1 => ("random CCWs", scatter::random_ccws(random)),
         2 => ("random steps", steps::random_steps(random)),
         3 if of_kind % 4 == 0 => ("plan over long records", plan::planned_long(random)),
         3..=7 => ("plan", plan::planned(random)),

@@ -7,11 +7,14 @@ use crate::simulator::channel::{
     CCW_LENGTH, FLAG_CHAIN_COMMAND, FLAG_CHAIN_DATA, FLAG_PCI, FLAG_SKIP, FLAG_SUPPRESS_LENGTH,
 };
 use crate::simulator::drive::{
-    NO_OPERATION, NO_SECTOR, READ_COUNT, READ_COUNT_KEY_DATA, READ_DATA, READ_HOME_ADDRESS,
-    READ_KEY_DATA, SEARCH_ID_EQUAL, SEEK, SET_FILE_MASK, SET_SECTOR,
+    is_multitrack, Done, Drive, MASK_SEEK_INHIBITED, NO_OPERATION, NO_SECTOR, READ_COUNT,
+    READ_COUNT_KEY_DATA, READ_COUNT_MULTITRACK, READ_DATA, READ_DATA_MULTITRACK, READ_HOME_ADDRESS,
+    READ_KEY_DATA, READ_KEY_DATA_MULTITRACK, SEARCH_ID_EQUAL, SEEK, SET_FILE_MASK, SET_SECTOR,
 };
 use crate::simulator::encode;
-use crate::simulator::pack::{Pack, Record, TrackAddress};
+use crate::simulator::faults::FaultList;
+use crate::simulator::pack::{Pack, TrackAddress};
+use crate::simulator::LAST_CYLINDER;
 
 pub fn planned(random: &mut Random) -> GeneratedRun {
     let ground = Ground::new(random);
@@ -51,8 +54,12 @@ fn of_steps(
     steps: usize,
     step: fn(&mut Plan),
 ) -> GeneratedRun {
-    let pack = ground.pack();
-    let mut plan = Plan::new(random, &pack, ground.storage);
+    let (pack, no_faults) = (ground.pack(), FaultList::default());
+    let mut plan = Plan::new(random, &ground, &pack, &no_faults);
+    if ground.is_multitrack && plan.random.once_in(2) {
+        plan.seek();
+        plan.set_file_mask();
+    }
     for _ in 0..steps {
         if plan.here() <= ROOM_LEFT {
             step(&mut plan);
@@ -66,8 +73,8 @@ fn of_steps(
 /// A chain that goes back to a seek until its limit, if nothing ends it.
 pub fn planned_loop(random: &mut Random) -> GeneratedRun {
     let ground = Ground::new(random);
-    let pack = ground.pack();
-    let mut plan = Plan::new(random, &pack, ground.storage);
+    let (pack, no_faults) = (ground.pack(), FaultList::default());
+    let mut plan = Plan::new(random, &ground, &pack, &no_faults);
     if plan.random.once_in(2) {
         plan.set_file_mask();
     }
@@ -96,35 +103,34 @@ enum Fit {
     Long,
 }
 
-/// A chain being written, and where the drive will be if the chain goes on so far.
+/// A chain being written, and the drive as it will be if the chain goes on so far.
 struct Plan<'a, 'r> {
     random: &'r mut Random,
     pack: &'a Pack<'a>,
     /// Bytes of storage.
     storage: usize,
+    is_multitrack: bool,
     chain: Vec<u8>,
     arguments: Vec<u8>,
-    track: TrackAddress,
-    /// Of the record where the drive is; none at the index.
-    place: Option<usize>,
-    just_passed: bool,
+    drive: Drive<'a>,
     mask_set: bool,
 }
 
 impl<'a, 'r> Plan<'a, 'r> {
-    fn new(random: &'r mut Random, pack: &'a Pack<'a>, storage: usize) -> Plan<'a, 'r> {
+    fn new(
+        random: &'r mut Random,
+        ground: &Ground,
+        pack: &'a Pack<'a>,
+        no_faults: &'a FaultList,
+    ) -> Plan<'a, 'r> {
         Plan {
             random,
             pack,
-            storage,
+            storage: ground.storage,
+            is_multitrack: ground.is_multitrack,
             chain: Vec::new(),
             arguments: Vec::new(),
-            track: TrackAddress {
-                cylinder: 0,
-                head: 0,
-            },
-            place: None,
-            just_passed: false,
+            drive: Drive::new(pack, no_faults, LAST_CYLINDER),
             mask_set: false,
         }
     }
@@ -137,6 +143,22 @@ impl<'a, 'r> Plan<'a, 'r> {
     fn put(&mut self, command: u8, address: usize, flags: u8, count: usize) {
         let ccw = encode::ccw(command, address, flags, count as u16);
         self.chain.extend(ccw);
+    }
+
+    /// A code, or once in three on multitrack ground its multitrack form where it has one.
+    fn any_form(&mut self, command: u8) -> u8 {
+        let multitrack = command | 0x80;
+        if self.is_multitrack && is_multitrack(multitrack) && self.random.once_in(3) {
+            multitrack
+        } else {
+            command
+        }
+    }
+
+    /// A control command, which the drive carries out unless it is refused.
+    fn put_control(&mut self, command: u8, argument: &[u8]) {
+        self.put_with_argument(command, argument);
+        let _ = self.drive.execute(command, argument, false);
     }
 
     /// A control or search command with its argument; flags without effect now and then, and
@@ -162,15 +184,6 @@ impl<'a, 'r> Plan<'a, 'r> {
         let flags = self.random.byte();
         self.put(code, target, flags, 0);
         self.chain.extend(self.random.bytes(over * CCW_LENGTH));
-    }
-
-    fn records(&self) -> Option<&'a [Record<'a>]> {
-        self.pack.track(self.track)
-    }
-
-    fn to_index(&mut self) {
-        self.place = None;
-        self.just_passed = false;
     }
 
     fn step(&mut self) {
@@ -201,6 +214,10 @@ impl<'a, 'r> Plan<'a, 'r> {
     }
 
     fn seek(&mut self) {
+        let mask = self.drive.mask().unwrap_or(0);
+        if mask & MASK_SEEK_INHIBITED != 0 && !self.random.once_in(8) {
+            return self.no_operation();
+        }
         let tracks: Vec<TrackAddress> = self.pack.tracks().map(|(track, _)| track).collect();
         let mut argument = [0; 6];
         let track = match self.random.below(80) {
@@ -213,9 +230,7 @@ impl<'a, 'r> Plan<'a, 'r> {
         if self.random.once_in(100) {
             argument[self.random.below(2)] = self.random.nonzero_byte();
         }
-        self.put_with_argument(SEEK, &argument);
-        self.track = track;
-        self.to_index();
+        self.put_control(SEEK, &argument);
     }
 
     fn set_file_mask(&mut self) {
@@ -225,11 +240,13 @@ impl<'a, 'r> Plan<'a, 'r> {
         let mask = match self.random.below(16) {
             0 => self.random.pick(&[0x02, 0x04, 0x20, 0x26]),
             1 => self.random.pick(&[0x08, 0x10, 0x18, 0xD9]),
+            _ if self.is_multitrack => {
+                self.random.pick(&[0x00, 0x08, 0x10, 0x18]) | self.random.pick(&[0, 0, 0x40, 0xC0])
+            }
             _ => self.random.pick(&[0x00, 0x01, 0x40, 0x80, 0xC1]),
         };
-        self.put_with_argument(SET_FILE_MASK, &[mask]);
+        self.put_control(SET_FILE_MASK, &[mask]);
         self.mask_set = true;
-        self.to_index();
     }
 
     fn set_sector(&mut self) {
@@ -238,65 +255,112 @@ impl<'a, 'r> Plan<'a, 'r> {
             1..=5 => NO_SECTOR,
             _ => self.random.below(128) as u8,
         };
-        self.put_with_argument(SET_SECTOR, &[sector]);
-        self.to_index();
+        self.put_control(SET_SECTOR, &[sector]);
     }
 
     fn no_operation(&mut self) {
         let (address, count) = (self.random.below(0x100_0000), self.random.within(1..=9));
         self.put(NO_OPERATION, address, FLAG_CHAIN_COMMAND, count);
-        self.to_index();
+        let _ = self.drive.execute(NO_OPERATION, &[], false);
     }
 
-    fn put_search(&mut self, number: u8) {
-        let [c0, c1, h0, h1] = encode::track_address(self.track);
-        self.put_with_argument(SEARCH_ID_EQUAL, &[c0, c1, h0, h1, number]);
+    /// The ID of R0 of the drive's track.
+    fn id_of_r0(&self) -> [u8; 5] {
+        let [c0, c1, h0, h1] = encode::track_address(self.drive.track());
+        [c0, c1, h0, h1, 0]
+    }
+
+    /// The ID of any record of the drive's track; in a multitrack search of a head behind it as well.
+    /// R0's often, seldom that of no record; none where the drive's track is not in the image.
+    fn id_to_find(&mut self, command: u8) -> Option<[u8; 5]> {
+        let TrackAddress { cylinder, head } = self.drive.track();
+        let last = if is_multitrack(command) {
+            head + 2
+        } else {
+            head
+        };
+        let tracks = (head..=last).map_while(|head| {
+            let track = TrackAddress { cylinder, head };
+            self.pack.track(track)
+        });
+        let tracks: Vec<_> = tracks.collect();
+        if tracks.is_empty() {
+            return None;
+        }
+        let records = self.random.pick(&tracks);
+        let place = match self.random.below(6) {
+            0 => 0,
+            _ => self.random.below(records.len()),
+        };
+        let mut id = *records[place].count_area.first_chunk()?;
+        if self.random.once_in(50) {
+            id[4] = self.random.byte();
+        }
+        Some(id)
     }
 
     /// A search and a TIC back to it.
     fn search_loop(&mut self) {
         let start = self.here();
-        let Some(records) = self.records() else {
+        let command = self.any_form(SEARCH_ID_EQUAL);
+        let Some(id) = self.id_to_find(command) else {
             if !self.random.once_in(6) {
                 return self.seek();
             }
-            self.put_search(0);
+            self.put_with_argument(command, &self.id_of_r0());
             return self.put(0x08, start, 0, 0);
         };
-        let place = match self.random.below(6) {
-            0 => 0,
-            _ => self.random.below(records.len()),
+        let mut ahead = self.drive.clone();
+        let found = loop {
+            match ahead.execute(command, &id, false) {
+                Ok(Done::Search { equal: false }) => (),
+                found => break found.is_ok(),
+            }
         };
-        let number = match self.random.below(50) {
-            0 => self.random.byte(),
-            _ => records[place].number(),
-        };
-        self.put_search(number);
+        // A multitrack search does not come back to what it has passed.
+        if is_multitrack(command) && !found && !self.random.once_in(6) {
+            return self.seek();
+        }
+        self.put_with_argument(command, &id);
         self.put(0x08, start, 0, 0);
-        self.place = Some(place);
-        self.just_passed = true;
+        self.drive = ahead;
     }
 
     /// A search of the next count area; equal once in four, with a CCW behind it to be skipped.
     fn search_once(&mut self) {
-        let Some(records) = self.records() else {
-            return self.put_search(0);
+        let command = self.any_form(SEARCH_ID_EQUAL);
+        let mut ahead = self.drive.clone();
+        let found = ahead.execute(command, &NO_ID, false).ok();
+        let Some(record) = found.and_then(|_| ahead.passed()) else {
+            return self.put_with_argument(command, &self.id_of_r0());
         };
-        let place = self.place.map_or(0, |place| (place + 1) % records.len());
-        let number = records[place].number();
-        if self.random.once_in(4) {
-            self.put_search(number);
-            self.chain.extend(self.random.bytes(CCW_LENGTH));
-        } else {
-            self.put_search(number.wrapping_add(1));
+        let mut id = *record.count_area.first_chunk::<5>().expect("8 bytes");
+        let equal = self.random.once_in(4);
+        if !equal {
+            id[4] = id[4].wrapping_add(1);
         }
-        self.place = Some(place);
-        self.just_passed = true;
+        self.put_with_argument(command, &id);
+        if equal {
+            self.chain.extend(self.random.bytes(CCW_LENGTH));
+        }
+        let _ = self.drive.execute(command, &id, false);
+    }
+
+    /// Whether a step would end an 86 or 8E here.
+    fn is_at_the_last_head(&self) -> bool {
+        let mut ahead = self.drive.clone();
+        let ended = ahead.execute(READ_DATA_MULTITRACK, &[], false).err();
+        self.is_multitrack && ended.is_some_and(|check| check.is_of_a_step())
     }
 
     /// A read with what its last CCW has of CC.
     fn read(&mut self, chained: u8) {
-        let mut command = self.random.pick(&[
+        if self.is_at_the_last_head() && self.random.once_in(6) {
+            let ended = [READ_DATA_MULTITRACK, READ_KEY_DATA_MULTITRACK];
+            let (command, length) = (self.random.pick(&ended), self.random.within(1..=12));
+            return self.put_read(command, length, chained);
+        }
+        let command = self.random.pick(&[
             READ_DATA,
             READ_DATA,
             READ_DATA,
@@ -308,43 +372,29 @@ impl<'a, 'r> Plan<'a, 'r> {
             READ_COUNT_KEY_DATA,
             READ_HOME_ADDRESS,
         ]);
+        let mut command = self.any_form(command);
         // What ends the chain is mostly put off: a record without data by reading its count
-        // alone, no record by going to another track.
-        if !self.random.once_in(8) {
-            match self.taken(command) {
-                Some((_, record)) if record.data.is_empty() => command = READ_COUNT,
-                None if chained == 0 => return self.put(NO_OPERATION, 0, 0, 1),
-                None => return self.seek(),
+        // alone, no record by going to another track. A multitrack read ends it more often.
+        let seldom = if is_multitrack(command) { 5 } else { 8 };
+        if !self.random.once_in(seldom) {
+            match self.drive.clone().execute(command, &[], false) {
+                Ok(Done::Read(arriving)) if arriving.is_unit_exception() => {
+                    command = if is_multitrack(command) {
+                        READ_COUNT_MULTITRACK
+                    } else {
+                        READ_COUNT
+                    };
+                }
+                Err(_) if chained == 0 => return self.put(NO_OPERATION, 0, 0, 1),
+                Err(_) => return self.seek(),
                 _ => (),
             }
         }
-        let taken = self.taken(command);
-        let length = match (command, taken) {
-            (READ_HOME_ADDRESS, _) => 5,
-            (_, None) => self.random.within(1..=12),
-            (READ_DATA, Some((_, record))) => record.data.len(),
-            (READ_KEY_DATA, Some((_, record))) => record.key.len() + record.data.len(),
-            (READ_COUNT, _) => 8,
-            (_, Some((_, record))) => 8 + record.key.len() + record.data.len(),
+        let length = match self.drive.execute(command, &[], false) {
+            Ok(Done::Read(arriving)) => arriving.length(),
+            _ => self.random.within(1..=12),
         };
         self.put_read(command, length, chained);
-        self.place = match command {
-            READ_HOME_ADDRESS => None,
-            _ => taken.map(|(place, _)| place),
-        };
-        self.just_passed = command == READ_COUNT;
-    }
-
-    /// The record that a read would take, and its place.
-    fn taken(&self, command: u8) -> Option<(usize, &'a Record<'a>)> {
-        let records = self.records()?;
-        let takes_passed = matches!(command, READ_DATA | READ_KEY_DATA);
-        let place = match self.place {
-            Some(place) if takes_passed && self.just_passed => place,
-            Some(place) if place + 1 < records.len() => place + 1,
-            _ => 1,
-        };
-        Some((place, records.get(place)?))
     }
 
     fn put_read(&mut self, command: u8, length: usize, chained: u8) {
@@ -432,6 +482,9 @@ impl<'a, 'r> Plan<'a, 'r> {
         counts
     }
 }
+
+/// Of no record.
+const NO_ID: [u8; 5] = [0xFF; 5];
 
 const OFF_THE_PACK: [TrackAddress; 4] = [
     TrackAddress {

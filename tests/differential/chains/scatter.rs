@@ -5,12 +5,14 @@ use super::GeneratedRun;
 use crate::random::Random;
 use crate::simulator::channel::CCW_LENGTH;
 use crate::simulator::drive::{
-    Operand, NO_OPERATION, READ_COUNT, READ_COUNT_KEY_DATA, READ_DATA, READ_HOME_ADDRESS,
-    READ_KEY_DATA, SEARCH_ID_EQUAL, SEEK, SET_FILE_MASK, SET_SECTOR,
+    single_track, Operand, NO_OPERATION, READ_COUNT, READ_COUNT_KEY_DATA,
+    READ_COUNT_KEY_DATA_MULTITRACK, READ_COUNT_MULTITRACK, READ_DATA, READ_DATA_MULTITRACK,
+    READ_HOME_ADDRESS, READ_KEY_DATA, READ_KEY_DATA_MULTITRACK, SEARCH_ID_EQUAL,
+    SEARCH_ID_EQUAL_MULTITRACK, SEEK, SET_FILE_MASK, SET_SECTOR,
 };
 use crate::simulator::encode;
 
-pub const COMMANDS: [u8; 10] = [
+pub const COMMANDS: [u8; 15] = [
     NO_OPERATION,
     SEEK,
     SET_FILE_MASK,
@@ -21,6 +23,11 @@ pub const COMMANDS: [u8; 10] = [
     READ_COUNT,
     READ_COUNT_KEY_DATA,
     READ_HOME_ADDRESS,
+    SEARCH_ID_EQUAL_MULTITRACK,
+    READ_DATA_MULTITRACK,
+    READ_KEY_DATA_MULTITRACK,
+    READ_COUNT_MULTITRACK,
+    READ_COUNT_KEY_DATA_MULTITRACK,
 ];
 
 pub fn random_bytes(random: &mut Random) -> GeneratedRun {
@@ -90,7 +97,7 @@ impl Arguments {
 
     /// An address and a count, most of the time such as the command wants.
     fn for_command(&self, random: &mut Random, command: u8, storage: usize) -> (usize, usize) {
-        let (address, count) = match command {
+        let (address, count) = match single_track(command) {
             SEEK => (6 * random.below(self.ids / 6), 6),
             SEARCH_ID_EQUAL => {
                 let ids = (self.singles - self.ids) / 5;

@@ -1,27 +1,29 @@
-//! Chains that go from step to step on one small track, whatever comes of a search.
+//! Chains that go from step to step on small tracks, whatever comes of a search.
 
 use super::{limit, GeneratedRun};
 use crate::random::Random;
 use crate::simulator::channel::{CCW_LENGTH, FLAG_CHAIN_COMMAND, FLAG_SKIP, FLAG_SUPPRESS_LENGTH};
 use crate::simulator::drive::{
-    Operand, NO_OPERATION, READ_COUNT, READ_COUNT_KEY_DATA, READ_DATA, READ_HOME_ADDRESS,
-    READ_KEY_DATA, SEARCH_ID_EQUAL, SEEK, SET_FILE_MASK, SET_SECTOR,
+    Operand, NO_OPERATION, READ_COUNT, READ_COUNT_KEY_DATA, READ_COUNT_KEY_DATA_MULTITRACK,
+    READ_COUNT_MULTITRACK, READ_DATA, READ_DATA_MULTITRACK, READ_HOME_ADDRESS, READ_KEY_DATA,
+    READ_KEY_DATA_MULTITRACK, SEARCH_ID_EQUAL, SEARCH_ID_EQUAL_MULTITRACK, SEEK, SET_FILE_MASK,
+    SET_SECTOR,
 };
 use crate::simulator::encode;
 use crate::simulator::large::track_at;
 
 #[derive(Clone, Copy)]
 pub enum Step {
-    /// For this R.
-    Search(u8),
+    /// By this command for this R of the first track, or of one behind it.
+    Search(u8, usize, u8),
     Command(u8),
 }
 
-/// Those of which every sequence is tried.
-const FEW: [Step; 8] = [
-    Step::Search(0),
-    Step::Search(1),
-    Step::Search(NO_RECORD),
+/// Those of which every sequence is tried on one track.
+pub const FEW: [Step; 8] = [
+    Step::Search(SEARCH_ID_EQUAL, 0, 0),
+    Step::Search(SEARCH_ID_EQUAL, 0, 1),
+    Step::Search(SEARCH_ID_EQUAL, 0, NO_RECORD),
     Step::Command(READ_DATA),
     Step::Command(READ_COUNT),
     Step::Command(READ_COUNT_KEY_DATA),
@@ -29,19 +31,39 @@ const FEW: [Step; 8] = [
     Step::Command(NO_OPERATION),
 ];
 
+/// Those of which every sequence is tried over several heads.
+pub const FEW_OVER_HEADS: [Step; 8] = [
+    Step::Search(SEARCH_ID_EQUAL_MULTITRACK, 1, 0),
+    Step::Search(SEARCH_ID_EQUAL_MULTITRACK, 0, NO_RECORD),
+    Step::Search(SEARCH_ID_EQUAL, 0, NO_RECORD),
+    Step::Command(READ_DATA),
+    Step::Command(READ_DATA_MULTITRACK),
+    Step::Command(READ_COUNT_MULTITRACK),
+    Step::Command(READ_COUNT_KEY_DATA_MULTITRACK),
+    Step::Command(NO_OPERATION),
+];
+
 /// Searches that are mostly vain pass the index now and then.
-const MANY: [Step; 16] = [
-    Step::Search(0),
-    Step::Search(1),
-    Step::Search(2),
-    Step::Search(NO_RECORD),
-    Step::Search(NO_RECORD),
-    Step::Search(NO_RECORD),
-    Step::Search(NO_RECORD),
+const MANY: [Step; 24] = [
+    Step::Search(SEARCH_ID_EQUAL, 0, 0),
+    Step::Search(SEARCH_ID_EQUAL, 0, 1),
+    Step::Search(SEARCH_ID_EQUAL, 1, 2),
+    Step::Search(SEARCH_ID_EQUAL, 0, NO_RECORD),
+    Step::Search(SEARCH_ID_EQUAL, 0, NO_RECORD),
+    Step::Search(SEARCH_ID_EQUAL, 0, NO_RECORD),
+    Step::Search(SEARCH_ID_EQUAL, 0, NO_RECORD),
+    Step::Search(SEARCH_ID_EQUAL_MULTITRACK, 1, 0),
+    Step::Search(SEARCH_ID_EQUAL_MULTITRACK, 1, 1),
+    Step::Search(SEARCH_ID_EQUAL_MULTITRACK, 0, NO_RECORD),
+    Step::Command(READ_DATA),
     Step::Command(READ_DATA),
     Step::Command(READ_KEY_DATA),
     Step::Command(READ_COUNT),
     Step::Command(READ_COUNT_KEY_DATA),
+    Step::Command(READ_DATA_MULTITRACK),
+    Step::Command(READ_KEY_DATA_MULTITRACK),
+    Step::Command(READ_COUNT_MULTITRACK),
+    Step::Command(READ_COUNT_KEY_DATA_MULTITRACK),
     Step::Command(READ_HOME_ADDRESS),
     Step::Command(NO_OPERATION),
     Step::Command(SET_SECTOR),
@@ -52,18 +74,19 @@ const MANY: [Step; 16] = [
 /// An R that no track has.
 const NO_RECORD: u8 = 9;
 
-/// Zeros for a seek, a sector and a mask; behind them the ID of each R.
+/// A seek argument, its first byte a mask and a sector of zeros as well; behind it the IDs of each R,
+/// track by track.
 const IDS: usize = 6;
 
 /// Count and storage of a read: a count area, a key of one byte, data of up to five.
 const ROOM: usize = 8 + 1 + 5;
 
-/// Every sequence of five of the few.
-pub fn every_five() -> Vec<Vec<Step>> {
-    (0..5).fold(vec![Vec::new()], |shorter, _| {
+/// Every sequence of so many of these.
+pub fn every(length: usize, of: &[Step]) -> Vec<Vec<Step>> {
+    (0..length).fold(vec![Vec::new()], |shorter, _| {
         let longer = shorter.iter().flat_map(|before| {
             let with = |step: &Step| [&before[..], &[*step]].concat();
-            FEW.iter().map(with)
+            of.iter().map(with)
         });
         longer.collect()
     })
@@ -72,17 +95,22 @@ pub fn every_five() -> Vec<Vec<Step>> {
 pub fn random_steps(random: &mut Random) -> GeneratedRun {
     let how_many = random.within(4..=40);
     let steps: Vec<Step> = (0..how_many).map(|_| random.pick(&MANY)).collect();
-    let records = random.within(0..=3) as u8;
+    let heads = random.within(1..=4);
+    let records: Vec<u8> = (0..heads).map(|_| random.within(0..=3) as u8).collect();
+    let first = random.pick(&[0, 0, 19 - heads]);
     GeneratedRun {
         limit: limit(random),
-        ..stepped(records, &steps)
+        ..stepped(first, &records, &steps)
     }
 }
 
-/// The steps over a track with R0 and so many records, then a read count that shows where the drive
-/// is. Each read has storage of its own.
-pub fn stepped(records: u8, steps: &[Step]) -> GeneratedRun {
+/// The steps over adjacent tracks with R0 and so many records each, then a read count that shows where
+/// the drive is. Each read has storage of its own.
+pub fn stepped(first: usize, records: &[u8], steps: &[Step]) -> GeneratedRun {
     let mut chain = Vec::new();
+    if first > 0 {
+        chain.extend(encode::ccw(SEEK, 0, FLAG_CHAIN_COMMAND, 6));
+    }
     let mut storage = 0;
     let last = Step::Command(READ_COUNT);
     for (step, chained) in steps
@@ -91,8 +119,9 @@ pub fn stepped(records: u8, steps: &[Step]) -> GeneratedRun {
         .chain([(last, 0)])
     {
         chain.extend(match step {
-            Step::Search(number) => {
-                encode::ccw(SEARCH_ID_EQUAL, IDS + 5 * usize::from(number), chained, 5)
+            Step::Search(command, track, number) => {
+                let place = track * usize::from(NO_RECORD + 1) + usize::from(number);
+                encode::ccw(command, IDS + 5 * place, chained, 5)
             }
             Step::Command(command) if Operand::of(command) == Operand::Storage => {
                 storage += ROOM;
@@ -102,19 +131,27 @@ pub fn stepped(records: u8, steps: &[Step]) -> GeneratedRun {
             Step::Command(SEEK) => encode::ccw(SEEK, 0, chained, 6),
             Step::Command(command) => encode::ccw(command, 0, chained | FLAG_SKIP, 1),
         });
-        if let Step::Search(_) = step {
+        if let Step::Search(..) = step {
             // Skipped or not, the next step is behind it.
             chain.extend(encode::ccw(0x08, chain.len() + CCW_LENGTH, 0, 0));
         }
     }
-    let track = track_at(0);
-    let mut arguments = vec![0; IDS];
+    let mut arguments = vec![0, 0];
+    arguments.extend(encode::track_address(track_at(first)));
     let mut image = Vec::new();
-    encode::put_home_address(&mut image, track);
-    for number in 0..=NO_RECORD {
-        arguments.extend(encode::track_address(track));
-        arguments.push(number);
-        if number <= records {
+    // One more than there are, which is searched for in vain.
+    for place in 0..=records.len() {
+        let track = track_at(first + place);
+        let ids = (0..=NO_RECORD).flat_map(|number| {
+            let [c0, c1, h0, h1] = encode::track_address(track);
+            [c0, c1, h0, h1, number]
+        });
+        arguments.extend(ids);
+        let Some(&records) = records.get(place) else {
+            continue;
+        };
+        encode::put_home_address(&mut image, track);
+        for number in 0..=records {
             let data = vec![0xD0 | number; usize::from(2 + number)];
             encode::put_record(&mut image, track, number, &[0xE0 | number], &data);
         }
@@ -138,12 +175,12 @@ mod tests {
     #[test]
     fn goes_on_behind_every_search() {
         let found = [
-            Step::Search(0),
+            Step::Search(SEARCH_ID_EQUAL, 0, 0),
             Step::Command(READ_DATA),
-            Step::Search(NO_RECORD),
+            Step::Search(SEARCH_ID_EQUAL, 0, NO_RECORD),
             Step::Command(READ_KEY_DATA),
         ];
-        let mut run = stepped(2, &found);
+        let mut run = stepped(0, &[2], &found);
         let outcome = run.simulated().unwrap();
         assert_eq!(outcome.end, End::Chain);
         assert_eq!(run.storage[..3], [0xD0, 0xD0, 0xEE]);
@@ -152,8 +189,27 @@ mod tests {
     }
 
     #[test]
-    fn every_five_steps() {
-        assert_eq!(every_five().len(), FEW.len().pow(5));
-        assert!(every_five().iter().all(|steps| steps.len() == 5));
+    fn goes_on_over_heads() {
+        let over = [
+            Step::Command(READ_COUNT_KEY_DATA),
+            Step::Search(SEARCH_ID_EQUAL_MULTITRACK, 1, 0),
+            Step::Command(READ_DATA),
+            Step::Command(READ_COUNT_MULTITRACK),
+        ];
+        let mut run = stepped(16, &[1, 0, 3], &over);
+        let outcome = run.simulated().unwrap();
+        assert_eq!(outcome.end, End::Chain);
+        assert_eq!(run.storage[..5], [0, 0, 0, 16, 1]);
+        assert_eq!(run.storage[ROOM..ROOM + 3], [0xD0, 0xD0, 0xEE]);
+        assert_eq!(run.storage[2 * ROOM..2 * ROOM + 5], [0, 0, 0, 18, 1]);
+        assert_eq!(run.storage[3 * ROOM + 4], 2);
+    }
+
+    #[test]
+    fn every_sequence() {
+        assert_eq!(every(5, &FEW).len(), FEW.len().pow(5));
+        assert!(every(3, &FEW_OVER_HEADS)
+            .iter()
+            .all(|steps| steps.len() == 3));
     }
 }

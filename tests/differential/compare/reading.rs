@@ -7,9 +7,12 @@ use crate::lendings::GeneratedReading;
 use crate::library::{self, ReadingAreas, RestartAreas, RunAreas, ACTION_5, ACTION_5A};
 use crate::random::Random;
 use crate::reading_marks::{marks_of, ReadingMark};
+use crate::simulator::channel::Ccw;
+use crate::simulator::drive::{is_multitrack, Done, UnitCheck};
 use crate::simulator::held::{READING_ANSWER, RECOVERY_ENTRY};
-use crate::simulator::reading::{read, Areas, End, Lent, Reading, Recovery};
+use crate::simulator::reading::{read_watched, Areas, End, Lent, Reading, Recovery};
 use crate::simulator::recovery::RestartAction;
+use crate::simulator::run::Watch;
 use crate::simulator::{encode, run, LAST_CYLINDER};
 use crate::tally::READING;
 
@@ -44,6 +47,16 @@ impl ReadingLeft {
     }
 }
 
+/// Whether a command of a multitrack code was begun, done or not.
+#[derive(Default)]
+struct Multitrack(bool);
+
+impl Watch for Multitrack {
+    fn command(&mut self, ccw: &Ccw, _argument: &[u8], _done: &Result<Done, UnitCheck>) {
+        self.0 |= is_multitrack(ccw.command);
+    }
+}
+
 impl Comparison {
     /// Compares the answer, all areas and the bytes around them; then asks demand 3.
     pub fn reading(
@@ -52,7 +65,8 @@ impl Comparison {
         reading: &GeneratedReading,
     ) -> Result<(), Disagreement> {
         let lent = lend(&mut Random::new(self.tally.compared), reading);
-        let (by_simulator, read) = by_simulator(reading, lent.clone());
+        let mut multitrack = Multitrack::default();
+        let (by_simulator, read) = by_simulator(reading, lent.clone(), &mut multitrack);
         let sides = Sides {
             names: &NAMES,
             limit: Some(reading.limit),
@@ -79,11 +93,11 @@ impl Comparison {
                 return Err(sides.told(READING, kind, &what, before));
             }
         }
-        let provisos = faultless.map(|_| ());
+        let Multitrack(is_multitrack) = multitrack;
         self.tally
-            .count_reading(read.recoveries.len(), provisos.is_ok());
+            .count_reading(read.recoveries.len(), faultless.is_ok(), is_multitrack);
         self.tally
-            .count_reading_marks(marks_of(reading, &read, provisos));
+            .count_reading_marks(marks_of(reading, &read, &faultless));
         Ok(())
     }
 }
@@ -132,6 +146,7 @@ fn by_library(reading: &GeneratedReading, mut arena: ReadingArena) -> ReadingLef
 fn by_simulator(
     reading: &GeneratedReading,
     mut arena: ReadingArena,
+    watch: &mut impl Watch,
 ) -> (ReadingLeft, Result<Reading, ReadingMark>) {
     let [chain, arguments, storage, image, faults, extent, program, restart_arguments, list, answer] =
         arena.lent();
@@ -156,7 +171,7 @@ fn by_simulator(
     } else if short_by > 0 {
         (1, Err(ReadingMark::ListShortBy(short_by)))
     } else {
-        match read(lent, areas, reading.limit, LAST_CYLINDER) {
+        match read_watched(lent, areas, reading.limit, LAST_CYLINDER, watch) {
             Ok(read) => (write(&read, list, answer), Ok(read)),
             Err(refusal) => (refusal.number(), Err(ReadingMark::Refused(refusal))),
         }

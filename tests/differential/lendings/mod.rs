@@ -13,7 +13,7 @@ use crate::simulator::faults::FaultList;
 use crate::simulator::held::RECOVERY_ENTRY;
 use crate::simulator::large::place_of;
 use crate::simulator::pack::TrackAddress;
-use crate::simulator::run::{self, Outcome};
+use crate::simulator::run::{self, Outcome, Watch};
 use crate::simulator::{Refusal, LAST_CYLINDER};
 
 impl GeneratedReading {
@@ -29,14 +29,18 @@ impl GeneratedReading {
     }
 
     /// The same chain, arguments, image and limit with no faults, over this storage.
-    pub fn faultless(&self, storage: &mut [u8]) -> Result<Outcome, Refusal> {
+    pub fn faultless(
+        &self,
+        storage: &mut [u8],
+        watch: &mut impl Watch,
+    ) -> Result<Outcome, Refusal> {
         let lent = run::Lent {
             chain: &self.chain,
             arguments: &self.arguments,
             image: &self.image,
             faults: &[],
         };
-        run::run(lent, storage, self.limit, LAST_CYLINDER)
+        run::run_watched(lent, storage, self.limit, LAST_CYLINDER, watch)
     }
 
     /// Its recoveries; it is not refused.

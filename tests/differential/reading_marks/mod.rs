@@ -2,12 +2,15 @@
 
 mod seen;
 
+use crate::chains::COMMANDS;
 use crate::demand::Proviso;
 use crate::lendings::{ANSWER_AREAS, LIST_SHORT_BY};
 use crate::recovery_marks::{MaskKind, PatternKind, NO_NEXT};
 use crate::simulator::areas::Area;
 use crate::simulator::channel::ProgramCheck;
-use crate::simulator::drive::{READ_COUNT_KEY_DATA, READ_DATA, READ_KEY_DATA};
+use crate::simulator::drive::{
+    NotFoundRule, ProtectedRule, UnitCheck, READ_COUNT, READ_COUNT_MULTITRACK, TAKING_DATA,
+};
 use crate::simulator::extent::ExtentRule;
 use crate::simulator::faults::FaultRule;
 use crate::simulator::pack::ImageRule;
@@ -28,11 +31,17 @@ pub enum ReadingMark {
     Masked(RestartAction, MaskKind),
     /// The command of a read that was cut.
     Cut(u8),
+    /// The command that a restart goes on with.
+    Next(u8),
+    /// The read count of a restart.
+    ReadCount(u8),
     /// What became of a pattern byte.
     Pattern(PatternKind),
     Met(ReadingEvent),
     /// So many recoveries where every proviso of demand 3 is met.
     DemandThree(HowMany),
+    /// By demand 3 the end is at the restart's 92, for this and with a mask or without.
+    AtReadCount(UnitCheck, bool),
     NotMet(Proviso),
     /// A refusal, by the rule that decided.
     Refused(Refusal),
@@ -110,16 +119,18 @@ impl ReadingMark {
                 let kinds = MaskKind::ALL.iter();
                 kinds.map(move |&kind| ReadingMark::Masked(action, kind))
             });
-        let takes_data = [READ_DATA, READ_KEY_DATA, READ_COUNT_KEY_DATA];
         ended()
             .into_iter()
             .chain(HowMany::ALL.iter().copied().map(ReadingMark::Made))
             .chain(recovered)
             .chain(masked)
-            .chain(takes_data.map(ReadingMark::Cut))
+            .chain(TAKING_DATA.map(ReadingMark::Cut))
+            .chain(COMMANDS.map(ReadingMark::Next))
+            .chain([READ_COUNT, READ_COUNT_MULTITRACK].map(ReadingMark::ReadCount))
             .chain(PatternKind::ALL.iter().copied().map(ReadingMark::Pattern))
             .chain(ReadingEvent::ALL.iter().copied().map(ReadingMark::Met))
             .chain(HowMany::ALL.iter().copied().map(ReadingMark::DemandThree))
+            .chain(at_read_count())
             .chain(Proviso::ALL.iter().copied().map(ReadingMark::NotMet))
             .chain(refusals().into_iter().map(ReadingMark::Refused))
             .chain(ANSWER_AREAS.map(ReadingMark::AnswerArea))
@@ -144,6 +155,20 @@ fn ended() -> Vec<ReadingMark> {
         behind.map(move |&behind| ReadingMark::Ended(end, behind))
     })
     .collect()
+}
+
+/// A step is protected under a mask alone.
+fn at_read_count() -> [ReadingMark; 5] {
+    let no_track = UnitCheck::NoRecordFound(NotFoundRule::NextHeadNotInImage);
+    let protected = UnitCheck::FileProtected(ProtectedRule::Step);
+    [
+        (UnitCheck::EndOfCylinder, false),
+        (UnitCheck::EndOfCylinder, true),
+        (no_track, false),
+        (no_track, true),
+        (protected, true),
+    ]
+    .map(|(ended_by, is_masked)| ReadingMark::AtReadCount(ended_by, is_masked))
 }
 
 fn can_be(end: End, behind: Behind) -> bool {
@@ -174,6 +199,11 @@ impl fmt::Display for ReadingMark {
             ReadingMark::Recovered(order, answered) => write!(out, "{order:?} cut {answered:?}"),
             ReadingMark::Masked(action, kind) => write!(out, "restart {action:?}, {kind:?}"),
             ReadingMark::Cut(command) => write!(out, "cut of a {command:02X}"),
+            ReadingMark::Next(command) => write!(out, "restart to a {command:02X}"),
+            ReadingMark::ReadCount(command) => write!(out, "restart with a {command:02X}"),
+            ReadingMark::AtReadCount(ended_by, is_masked) => {
+                write!(out, "end at a 92, {ended_by:?}, mask {is_masked}")
+            }
             ReadingMark::Pattern(kind) => write!(out, "pattern byte {kind:?}"),
             ReadingMark::Met(event) => write!(out, "{event:?}"),
             ReadingMark::DemandThree(how_many) => write!(out, "demand 3, recoveries {how_many:?}"),

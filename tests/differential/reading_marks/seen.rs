@@ -1,29 +1,40 @@
 //! Which marks a reading has.
 
 use super::{Answered, Behind, HowMany, Order, ReadingEvent, ReadingMark};
-use crate::demand::Proviso;
+use crate::chains::COMMANDS;
+use crate::demand::{Faultless, Proviso};
 use crate::lendings::GeneratedReading;
 use crate::recovery_marks::{kind_of_fate, MaskKind};
 use crate::simulator::held::RECOVERY_ENTRY;
+use crate::simulator::interrupted::next_command;
 use crate::simulator::reading::{End, LimitOf, Reading, Recovery};
 use crate::simulator::recovery::{Answer, RestartAction};
+use crate::simulator::restart::read_count_before;
 use std::collections::BTreeSet;
 
 /// The marks of a reading, as it was lent, that the simulator has not refused.
 pub fn marks_of(
     lent: &GeneratedReading,
     read: &Reading,
-    provisos: Result<(), Proviso>,
+    faultless: &Result<Faultless, Proviso>,
 ) -> BTreeSet<ReadingMark> {
     let made = read.recoveries.len();
     let mut marks = BTreeSet::from([
         ReadingMark::Ended(read.end, behind(made)),
         ReadingMark::Made(how_many(made)),
-        match provisos {
-            Ok(()) => ReadingMark::DemandThree(how_many(made)),
-            Err(proviso) => ReadingMark::NotMet(proviso),
-        },
     ]);
+    match faultless {
+        Ok(faultless) => {
+            marks.insert(ReadingMark::DemandThree(how_many(made)));
+            let at_read_count = faultless.at_read_count;
+            marks.extend(
+                at_read_count.map(|at| ReadingMark::AtReadCount(at.ended_by, at.is_masked)),
+            );
+        }
+        Err(proviso) => {
+            marks.insert(ReadingMark::NotMet(*proviso));
+        }
+    }
     for (place, recovery) in read.recoveries.iter().enumerate() {
         let order = match place {
             0 => Order::First,
@@ -76,6 +87,12 @@ fn see_recovery(
     if let Answer::Restart(action) = recovery.recovered.answer {
         let kind = MaskKind::of(recovery.cut.mask);
         marks.insert(ReadingMark::Masked(action, kind));
+        let next = next_command(&lent.chain, recovery.cut.address());
+        let next = next.expect("a restart has a next CCW");
+        marks.extend(read_count_before(&next).map(ReadingMark::ReadCount));
+        if COMMANDS.contains(&next.command) {
+            marks.insert(ReadingMark::Next(next.command));
+        }
     }
     if let Some(correction) = &recovery.recovered.correction {
         let kinds = correction.fates.map(kind_of_fate);
@@ -156,7 +173,7 @@ fn comes_again(recoveries: &[Recovery]) -> bool {
 mod tests {
     use super::*;
     use crate::chains::GeneratedRun;
-    use crate::demand::Faultless;
+    use crate::simulator::drive::UnitCheck;
     use crate::simulator::encode::ccw;
     use crate::simulator::{run, sample};
 
@@ -173,10 +190,12 @@ mod tests {
             limit,
             ..sample::run()
         };
-        let lent = GeneratedReading::of_run(run, sample::EXTENT.to_vec());
+        marks_of_reading(&GeneratedReading::of_run(run, sample::EXTENT.to_vec()))
+    }
+
+    fn marks_of_reading(lent: &GeneratedReading) -> BTreeSet<ReadingMark> {
         let read = lent.clone().simulated().expect("the sample is not refused");
-        let provisos = Faultless::of(&lent).map(|_| ());
-        let marks = marks_of(&lent, &read, provisos);
+        let marks = marks_of(lent, &read, &Faultless::of(lent));
         assert!(marks.iter().all(|mark| ReadingMark::all().contains(mark)));
         marks
     }
@@ -200,11 +219,31 @@ mod tests {
             ReadingMark::Recovered(Order::Later, Answered::Finished),
             ReadingMark::Masked(RestartAction::FiveA, MaskKind::NoMask),
             ReadingMark::Cut(0x06),
+            ReadingMark::Next(0x06),
+            ReadingMark::ReadCount(0x12),
             ReadingMark::Pattern(crate::recovery_marks::PatternKind::Stored),
             ReadingMark::Met(ReadingEvent::OtherRecord),
             ReadingMark::Met(ReadingEvent::AsManyAsTheLimit),
         ];
         assert_eq!(marks, BTreeSet::from(expected));
+    }
+
+    #[test]
+    fn two_heads() {
+        let marks = marks_of_reading(&sample::over_two_heads());
+        let by_end = UnitCheck::EndOfCylinder;
+        let end = End::Run(run::End::UnitCheck(by_end));
+        for mark in [
+            ReadingMark::Ended(end, Behind::MoreRecoveries),
+            ReadingMark::Cut(0x86),
+            ReadingMark::Next(0x86),
+            ReadingMark::ReadCount(0x92),
+            ReadingMark::DemandThree(HowMany::Two),
+            ReadingMark::AtReadCount(by_end, false),
+            ReadingMark::Met(ReadingEvent::OtherTrack),
+        ] {
+            assert!(marks.contains(&mark), "{mark}");
+        }
     }
 
     #[test]

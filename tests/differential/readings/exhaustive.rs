@@ -1,8 +1,9 @@
 //! Small readings of which every one of a kind is tried.
 
-use crate::chains::steps::{every_five, stepped};
+use crate::chains::steps::{every, stepped, Step, FEW, FEW_OVER_HEADS};
 use crate::compare::{Comparison, Disagreement};
 use crate::exhaustive::each_byte_at_each_value;
+use crate::generate::extent_of;
 use crate::lendings::GeneratedReading;
 use crate::simulator::faults::Fault;
 use crate::simulator::held::RECOVERY_ENTRY;
@@ -13,7 +14,7 @@ pub fn compare_all(comparison: &mut Comparison) -> Result<(), Disagreement> {
     each_byte(comparison)?;
     each_limit(comparison)?;
     each_length(comparison)?;
-    each_five_steps(comparison)
+    each_few_steps(comparison)
 }
 
 /// Document 01's sample with a fault in R2 besides, so that both reads are cut.
@@ -33,7 +34,7 @@ fn both_faulted() -> GeneratedReading {
     }
 }
 
-/// Each byte of each area that is only read at each value.
+/// The sample over two heads with each byte of each area that is only read at each value.
 fn each_byte(comparison: &mut Comparison) -> Result<(), Disagreement> {
     type Area = fn(&mut GeneratedReading) -> &mut Vec<u8>;
     let areas: [Area; 5] = [
@@ -44,11 +45,11 @@ fn each_byte(comparison: &mut Comparison) -> Result<(), Disagreement> {
         |reading| &mut reading.extent,
     ];
     for area in areas {
-        let mut reading = both_faulted();
+        let mut reading = sample::over_two_heads();
         let bytes = area(&mut reading).clone();
         for changed in each_byte_at_each_value(&bytes) {
             *area(&mut reading) = changed;
-            comparison.reading("sample, one byte set", &reading)?;
+            comparison.reading("two heads, one byte set", &reading)?;
         }
     }
     Ok(())
@@ -113,26 +114,38 @@ fn each_length(comparison: &mut Comparison) -> Result<(), Disagreement> {
     Ok(())
 }
 
-/// Every sequence of five steps over R0 and R1, and over R0, R1 and R2; all but R0 are faulted.
-fn each_five_steps(comparison: &mut Comparison) -> Result<(), Disagreement> {
-    for steps in every_five() {
-        for (kind, records) in [
-            ("each five steps, R0 and R1", 1),
-            ("each five steps, R0, R1 and R2", 2),
-        ] {
-            let mut run = stepped(records, &steps);
-            for number in 1..=records {
-                let fault = Fault {
-                    track: track_at(0),
-                    number,
-                    error_displacement: 2,
-                    pattern: [0x81, 0x42, 0x24],
-                };
-                encode::put_fault(&mut run.faults, fault);
-            }
-            run.limit = 16;
-            comparison.reading(kind, &GeneratedReading::of_run(run, vec![0; 8]))?;
-        }
+/// Every sequence of three steps over R0 and R1, of five over R0, R1 and R2, and of five over heads 16
+/// to 18, head 17 with R0 alone.
+fn each_few_steps(comparison: &mut Comparison) -> Result<(), Disagreement> {
+    for steps in every(3, &FEW) {
+        let reading = all_faulted(0, &[1], &steps);
+        comparison.reading("each three steps, R0 and R1", &reading)?;
+    }
+    for steps in every(5, &FEW) {
+        let reading = all_faulted(0, &[2], &steps);
+        comparison.reading("each five steps, R0, R1 and R2", &reading)?;
+    }
+    for steps in every(5, &FEW_OVER_HEADS) {
+        let reading = all_faulted(16, &[1, 0, 1], &steps);
+        comparison.reading("each five steps over heads", &reading)?;
     }
     Ok(())
+}
+
+/// The steps over tracks of which all records but R0 are faulted.
+fn all_faulted(first: usize, records: &[u8], steps: &[Step]) -> GeneratedReading {
+    let mut run = stepped(first, records, steps);
+    for (place, &records) in records.iter().enumerate() {
+        for number in 1..=records {
+            let fault = Fault {
+                track: track_at(first + place),
+                number,
+                error_displacement: 2,
+                pattern: [0x81, 0x42, 0x24],
+            };
+            encode::put_fault(&mut run.faults, fault);
+        }
+    }
+    run.limit = 16;
+    GeneratedReading::of_run(run, extent_of([first, first + records.len() - 1]))
 }

@@ -8,7 +8,7 @@ use crate::limits::{faults_of_last_records, MOST_FAULTS};
 use crate::simulator::channel::CCW_LENGTH;
 use crate::simulator::encode::{self, ccw};
 use crate::simulator::extent::WHOLE_PACK;
-use crate::simulator::large::{image_of, track_of, TracksOf};
+use crate::simulator::large::{cylinder_of, image_of, track_of, TracksOf};
 use crate::simulator::pack::LONGEST_RECORD;
 use crate::simulator::sample;
 
@@ -29,6 +29,7 @@ pub fn compare_all(comparison: &mut Comparison) -> Result<(), Disagreement> {
     for ccws in [1, 2, 200, 254] {
         comparison.reading("long records", &long_records(ccws))?;
     }
+    comparison.reading("19 heads, all cut", &heads())?;
     comparison.reading("5,041 faults", &most_faults())?;
     comparison.reading("full image", &full_image())?;
     for (name, lengthen) in LONGER {
@@ -82,6 +83,13 @@ fn round(times: usize, last_reads: usize) -> GeneratedReading {
         arguments: id_of_r254,
         ..over(track_of(255, 1), 255, &ccws)
     }
+}
+
+/// Each record of a cylinder taken by an 86 in a loop, from head to head; End of Cylinder at the last
+/// restart's 92.
+fn heads() -> GeneratedReading {
+    let ccws = [ccw(0x86, 0, 0x40, 1), ccw(0x08, 0, 0, 0)];
+    over(cylinder_of(|_| 60, 1), 19 * 60, &ccws)
 }
 
 /// So many reads that are cut, then three no-operations again and again.

@@ -6,6 +6,7 @@ use crate::reports::ANSWER_AREAS;
 use crate::simulator::areas::Area;
 use crate::simulator::channel::ProgramCheck;
 use crate::simulator::cut::CutRule;
+use crate::simulator::drive::{READ_COUNT, READ_COUNT_MULTITRACK, TAKING_DATA};
 use crate::simulator::extent::ExtentRule;
 use crate::simulator::interrupted::InterruptedRule;
 use crate::simulator::recovery::{NotBuilt, RestartAction};
@@ -23,6 +24,10 @@ pub enum RecoveryMark {
     Answered(Action, AnswerKind),
     /// A restart by this action, and the mask that it sets.
     Masked(RestartAction, MaskKind),
+    /// The command of a read that was corrected.
+    Cut(u8),
+    /// The read count of a restart.
+    ReadCount(u8),
     /// A refusal, by the rule that decided.
     Refused(Refusal),
     /// A refusal's number where the report's sense sends to this action, or where no row matches.
@@ -131,6 +136,8 @@ impl RecoveryMark {
             .map(RecoveryMark::Row)
             .chain(answered)
             .chain(masked)
+            .chain(TAKING_DATA.map(RecoveryMark::Cut))
+            .chain([READ_COUNT, READ_COUNT_MULTITRACK].map(RecoveryMark::ReadCount))
             .chain(refusals().into_iter().map(RecoveryMark::Refused))
             .chain(refused_for)
             .chain(patterns)
@@ -226,6 +233,8 @@ impl fmt::Display for RecoveryMark {
             }
             RecoveryMark::Answered(action, kind) => write!(out, "action {action:?}: {kind:?}"),
             RecoveryMark::Masked(action, kind) => write!(out, "restart {action:?}, {kind:?}"),
+            RecoveryMark::Cut(command) => write!(out, "cut of a {command:02X}"),
+            RecoveryMark::ReadCount(command) => write!(out, "restart with a {command:02X}"),
             RecoveryMark::Refused(refusal) => write!(out, "refused by {refusal:?}"),
             RecoveryMark::RefusedFor(number, Some(action)) => {
                 write!(out, "refused {number} for action {action:?}")

@@ -11,6 +11,7 @@ use crate::simulator::interrupted::next_command;
 use crate::simulator::pack::{TrackAddress, LAST_HEAD};
 use crate::simulator::recovery::{Answer, Recovered, RestartAction};
 use crate::simulator::report::Report;
+use crate::simulator::restart::read_count_before;
 use crate::simulator::table::{row_of, Action, TABLE};
 use crate::simulator::{Refusal, LAST_CYLINDER};
 use std::collections::BTreeSet;
@@ -82,6 +83,7 @@ impl Marks {
             for (at, fate) in correction.fates.into_iter().enumerate() {
                 self.see(RecoveryMark::Pattern(at, kind_of_fate(fate)));
             }
+            self.see(RecoveryMark::Cut(recovery.chain[report.first]));
             self.meet_if(is_apart(&correction.fates), RecoveryEvent::PatternApart);
             self.walked(report, &correction.read);
             self.ended(recovery, report, &correction.read, kind);
@@ -150,8 +152,12 @@ impl Marks {
                 self.meet_if(outside, RecoveryEvent::FinishedOutsideTheExtent);
             }
             _ => {
-                let behind = next.is_ok_and(|next| next.at != read.end.ccw.behind());
+                let next = next.expect("a restart has a next CCW");
+                let behind = next.at != read.end.ccw.behind();
                 self.meet_if(behind, RecoveryEvent::NextBehindTic);
+                if let Some(read_count) = read_count_before(&next) {
+                    self.see(RecoveryMark::ReadCount(read_count));
+                }
             }
         }
     }
@@ -231,6 +237,8 @@ mod tests {
             RecoveryMark::Row(9),
             RecoveryMark::Answered(Action::Five, AnswerKind::Restart(five_a)),
             RecoveryMark::Masked(five_a, MaskKind::NoMask),
+            RecoveryMark::Cut(0x06),
+            RecoveryMark::ReadCount(0x12),
             RecoveryMark::Pattern(0, PatternKind::Stored),
             RecoveryMark::Pattern(1, PatternKind::Stored),
             RecoveryMark::Pattern(2, PatternKind::Stored),

@@ -118,7 +118,7 @@ const CHANGES: [Change; 47] = [
         planned.report.first = random.pick(&past);
     }),
     ("first CCW of another command", |random, planned| {
-        let command = random.pick(&[0x02, 0x03, 0x07, 0x08, 0x12, 0x1A, 0x16, 0x86]);
+        let command = random.pick(&[0x02, 0x03, 0x07, 0x08, 0x12, 0x1A, 0x16, 0x92, 0xB1]);
         if let Some(byte) = planned.chain.get_mut(planned.report.first) {
             *byte = command;
         }

@@ -7,7 +7,7 @@ use crate::simulator::channel::{
     Channel, Program, Status, CCW_LENGTH, CHANNEL_INCORRECT_LENGTH, FLAG_CHAIN_COMMAND,
     FLAG_CHAIN_DATA, FLAG_PCI, FLAG_SKIP, FLAG_SUPPRESS_LENGTH, UNIT_CHECK, UNIT_END,
 };
-use crate::simulator::drive::{READ_COUNT_KEY_DATA, READ_DATA, READ_KEY_DATA};
+use crate::simulator::drive::{READ_DATA, TAKING_DATA};
 use crate::simulator::encode;
 use crate::simulator::pack::TrackAddress;
 use crate::simulator::recovery::DATA_AREA_FORMAT;
@@ -39,7 +39,7 @@ fn put_data_chain(random: &mut Random, chain: &mut Vec<u8>, storage: usize) -> u
     for place in 0..ccws {
         let is_last = place + 1 == ccws;
         let code = match place {
-            0 => random.pick(&[READ_DATA, READ_KEY_DATA, READ_COUNT_KEY_DATA]),
+            0 => random.pick(&TAKING_DATA),
             _ => random.pick(&[READ_DATA, 0x00, 0x03, 0xFF]),
         };
         let flags = if is_last && !random.once_in(8) {

@@ -189,10 +189,11 @@ fn extent_around(random: &mut Random, track: TrackAddress) -> Vec<u8> {
 mod tests {
     use super::*;
     use crate::chains::{GeneratedRestart, GeneratedRun};
+    use crate::demand::{csw_of_reading, AtReadCount, LastTwo};
     use crate::simulator::extent::WHOLE_PACK;
     use crate::simulator::recovery::Answer;
     use crate::simulator::run::{End, Outcome};
-    use crate::simulator::Refusal;
+    use crate::simulator::{check_faults, Refusal};
 
     const TURNS: usize = 3_200;
 
@@ -293,28 +294,34 @@ mod tests {
         Some(outcome.csw)
     }
 
-    /// Restart after restart leads to where the run without faults ends, with the same storage; a
-    /// program check may leave a faulted area behind.
+    /// Restart after restart leads to where the run without faults ends, or to a restart's 92, with the
+    /// same storage; a program check may leave a faulted area behind.
     #[test]
     fn recovered_runs_end_as_the_faultless_one() {
         let mut random = Random::new(6);
-        let mut ended = 0;
+        let (mut ended, mut ended_at_read_count) = (0, 0);
         for _ in 0..600 {
             let (mut run, outcome) = chains::cut(&mut random);
             run.limit = 4_096;
             let mut faultless = run.clone();
             faultless.faults.clear();
-            let expected = faultless.simulated().expect("the run is not refused");
+            let mut last = LastTwo::default();
+            let expected = faultless
+                .watched(&mut last)
+                .expect("the run is not refused");
             if let End::Limit | End::ProgramCheck(_) = expected.end {
                 continue;
             }
             let Some(csw) = read_on(&mut run, outcome) else {
                 continue;
             };
-            assert_eq!(csw, expected.csw);
+            let (_, faults) = check_faults(&run.image, &run.faults, LAST_CYLINDER).unwrap();
+            let at_read_count = AtReadCount::of(&expected, &last, &faults);
+            assert_eq!(csw, csw_of_reading(expected.csw, at_read_count));
             assert!(run.storage == faultless.storage);
             ended += 1;
+            ended_at_read_count += usize::from(at_read_count.is_some());
         }
-        assert!(ended > 400);
+        assert!(ended > 400 && ended_at_read_count > 4);
     }
 }

@@ -7,42 +7,52 @@ use crate::simulator::channel::{CCW_LENGTH, FLAGS_ZERO};
 use crate::simulator::{encode, sample};
 
 pub fn compare_all(comparison: &mut Comparison) -> Result<(), Disagreement> {
-    each_byte(comparison, &run_of_sample(None))?;
-    each_byte(comparison, &run_of_sample(Some(restart_of_sample())))?;
+    each_byte(comparison, "sample, one byte set", &run_of_sample())?;
+    each_byte(
+        comparison,
+        "two heads, one byte set",
+        &restarted_over_heads(),
+    )?;
     each_code_and_flags_byte(comparison)?;
     each_limit(comparison)?;
-    each_five_steps(comparison)
+    each_few_steps(comparison)
 }
 
 /// Document 01's sample.
-fn run_of_sample(restart: Option<GeneratedRestart>) -> GeneratedRun {
+fn run_of_sample() -> GeneratedRun {
     GeneratedRun {
         storage: vec![0xEE; 16],
-        restart,
         ..sample::run()
     }
 }
 
-/// The restart of the sample's cut, with a mask besides.
-fn restart_of_sample() -> GeneratedRestart {
+/// The restart, with a mask, of the first cut over two heads.
+fn restarted_over_heads() -> GeneratedRun {
     let program = [
         encode::ccw(0x07, 0x2000, 0x40, 6),
         encode::ccw(0x1F, 0x2006, 0x40, 1),
         encode::ccw(0x23, 0x2007, 0x40, 1),
         encode::ccw(0x31, 0x2008, 0x40, 5),
         encode::ccw(0x08, 0x1018, 0, 0),
-        encode::ccw(0x12, 0, 0x50, 8),
+        encode::ccw(0x92, 0, 0x50, 8),
         encode::ccw(0x08, 0x0020, 0, 0),
         [0; CCW_LENGTH],
     ];
-    GeneratedRestart {
-        program: program.concat(),
-        arguments: vec![0, 0, 0, 0, 0, 1, 0xC1, 0x7F, 0, 0, 0, 1, 1, 0, 0, 0],
+    GeneratedRun {
+        restart: Some(GeneratedRestart {
+            program: program.concat(),
+            arguments: vec![0, 0, 0, 0, 0, 17, 0xC9, 0x7F, 0, 0, 0, 17, 1, 0, 0, 0],
+        }),
+        ..sample::over_two_heads().into_run()
     }
 }
 
 /// Each byte of each area that is only read at each value.
-fn each_byte(comparison: &mut Comparison, run: &GeneratedRun) -> Result<(), Disagreement> {
+fn each_byte(
+    comparison: &mut Comparison,
+    kind: &'static str,
+    run: &GeneratedRun,
+) -> Result<(), Disagreement> {
     type Area = fn(&mut GeneratedRun) -> Option<&mut Vec<u8>>;
     const AREAS: [Area; 6] = [
         |run| Some(&mut run.chain),
@@ -60,7 +70,7 @@ fn each_byte(comparison: &mut Comparison, run: &GeneratedRun) -> Result<(), Disa
         for changed in each_byte_at_each_value(&bytes.clone()) {
             let mut run = run.clone();
             *area(&mut run).expect("the area is there") = changed;
-            comparison.run("sample, one byte set", run)?;
+            comparison.run(kind, run)?;
         }
     }
     Ok(())
@@ -71,7 +81,7 @@ fn each_code_and_flags_byte(comparison: &mut Comparison) -> Result<(), Disagreem
     let of_high_bits = (0..=255).filter(|flags| flags & FLAGS_ZERO == 0);
     let flags = of_high_bits.chain(1..=FLAGS_ZERO);
     for (code, flags) in flags.flat_map(|flags| (0..=255).map(move |code| (code, flags))) {
-        let mut run = run_of_sample(None);
+        let mut run = run_of_sample();
         run.chain.truncate(CCW_LENGTH);
         run.chain.extend(encode::ccw(code, 0, flags, 5));
         run.chain.extend(encode::ccw(0x03, 8, 0, 2));
@@ -84,7 +94,7 @@ fn each_code_and_flags_byte(comparison: &mut Comparison) -> Result<(), Disagreem
 /// the fourth command, without it there is a fifth.
 fn each_limit(comparison: &mut Comparison) -> Result<(), Disagreement> {
     for limit in [0, 1, 2, 3, 4, 5, 6, 4_096, 4_097, 1 << 32, usize::MAX] {
-        let mut run = run_of_sample(None);
+        let mut run = run_of_sample();
         run.limit = limit;
         comparison.run("sample, each limit", run.clone())?;
         run.faults.clear();
@@ -93,11 +103,20 @@ fn each_limit(comparison: &mut Comparison) -> Result<(), Disagreement> {
     Ok(())
 }
 
-/// Every sequence of five steps over R0 alone, and over R0 and R1.
-fn each_five_steps(comparison: &mut Comparison) -> Result<(), Disagreement> {
-    for steps in steps::every_five() {
-        comparison.run("each five steps, R0 alone", steps::stepped(0, &steps))?;
-        comparison.run("each five steps, R0 and R1", steps::stepped(1, &steps))?;
+/// Every sequence of three steps over R0 alone, of five over R0 and R1, and of five over three heads,
+/// the second with R0 alone, the fourth not in the image.
+fn each_few_steps(comparison: &mut Comparison) -> Result<(), Disagreement> {
+    for steps in steps::every(3, &steps::FEW) {
+        let run = steps::stepped(0, &[0], &steps);
+        comparison.run("each three steps, R0 alone", run)?;
+    }
+    for steps in steps::every(5, &steps::FEW) {
+        let run = steps::stepped(0, &[1], &steps);
+        comparison.run("each five steps, R0 and R1", run)?;
+    }
+    for steps in steps::every(5, &steps::FEW_OVER_HEADS) {
+        let run = steps::stepped(0, &[1, 0, 1], &steps);
+        comparison.run("each five steps over heads", run)?;
     }
     Ok(())
 }

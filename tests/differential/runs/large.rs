@@ -6,7 +6,8 @@ use crate::generate::decoded;
 use crate::limits::{faults_of_last_records, MOST_FAULTS};
 use crate::simulator::channel::CCW_LENGTH;
 use crate::simulator::encode;
-use crate::simulator::large::{image_of, track_at, TracksOf};
+use crate::simulator::large::{cylinder_of, image_of, track_at, TracksOf};
+use crate::simulator::pack::LAST_HEAD;
 use crate::simulator::sample;
 
 const LONGEST_IMAGE: usize = 1_048_576;
@@ -21,6 +22,9 @@ pub fn compare_all(comparison: &mut Comparison) -> Result<(), Disagreement> {
             ("long records to the limit", long_records()),
             ("255 CCWs in a read", many_ccws()),
             ("5,041 faults", most_faults()),
+            ("19 heads to the limit", heads_to_the_limit()),
+            ("18 steps in a read", steps_in_a_read(1)),
+            ("18 steps in a read, then none", steps_in_a_read(0)),
         ] {
             comparison.run(kind, started(run, restarted))?;
         }
@@ -161,6 +165,37 @@ fn ends_after(step: usize, idle: usize) -> GeneratedRun {
         limit: 4_096,
         restart: None,
     }
+}
+
+/// Over a cylinder with so many records of 3 bytes after R0 on each head.
+fn over_heads(records: impl Fn(u16) -> u8, ccws: &[[u8; CCW_LENGTH]]) -> GeneratedRun {
+    GeneratedRun {
+        chain: ccws.concat(),
+        storage: vec![0xEE; 14],
+        image: cylinder_of(records, 3),
+        ..GeneratedRun::default()
+    }
+}
+
+/// Each record's count area passed, then its data taken, from head to head.
+fn heads_to_the_limit() -> GeneratedRun {
+    over_heads(
+        |_| 120,
+        &[
+            encode::ccw(0x92, 0, 0x50, 8),
+            encode::ccw(0x86, 0, 0x40, 3),
+            encode::ccw(0x08, 0, 0, 0),
+        ],
+    )
+}
+
+/// Tracks with R0 alone but for the last, which has so many records: the read past it is End of
+/// Cylinder.
+fn steps_in_a_read(on_the_last: u8) -> GeneratedRun {
+    over_heads(
+        |head| if head == LAST_HEAD { on_the_last } else { 0 },
+        &[encode::ccw(0x9E, 0, 0x40, 11), encode::ccw(0x86, 11, 0, 3)],
+    )
 }
 
 type Lengthen<T> = (&'static str, fn(&mut T));

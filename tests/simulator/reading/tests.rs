@@ -1,9 +1,10 @@
 use super::*;
 use crate::simulator::channel::ProgramCheck;
-use crate::simulator::drive::{RejectRule, UnitCheck};
+use crate::simulator::drive::{NotFoundRule, ProtectedRule, RejectRule, UnitCheck};
 use crate::simulator::encode::ccw;
 use crate::simulator::faults::Fault;
 use crate::simulator::held::HeldReading as Call;
+use crate::simulator::large::{put_track, track_at, TracksOf};
 use crate::simulator::{answer, sample};
 
 const TRACK: TrackAddress = TrackAddress {
@@ -280,6 +281,106 @@ fn mask_is_set_again() {
         assert_eq!(call.program[last_tic..length], ccw(0x08, 0x28, 0, 0));
         assert_eq!(call.restart_arguments[6], mask.unwrap_or(0));
     }
+}
+
+/// These commands from the index of 000/00 on, each of a read with one byte of storage, over heads of
+/// so many records of one byte; all of them are faulted.
+fn over_heads(heads: &[u8], commands: &[u8]) -> Call {
+    let (mut image, mut faults) = (Vec::new(), Vec::new());
+    for (head, &records) in heads.iter().enumerate() {
+        let tracks = TracksOf {
+            records,
+            data_length: 1,
+        };
+        put_track(&mut image, track_at(head), tracks);
+        for number in 1..=records {
+            let fault = Fault {
+                track: track_at(head),
+                number,
+                error_displacement: 1,
+                pattern: [0xFF; 3],
+            };
+            encode::put_fault(&mut faults, fault);
+        }
+    }
+    let last = commands.len() - 1;
+    let ccws = (commands.iter().enumerate()).map(|(place, &command)| {
+        let flags = if place == last { 0x20 } else { 0x60 };
+        ccw(command, place, flags, 1)
+    });
+    Call {
+        chain: ccws.flatten().collect(),
+        storage: vec![0; commands.len()],
+        image,
+        faults,
+        extent: vec![0, 0, 0, 0, 0, 0, 0, 18],
+        ..Call::default()
+    }
+}
+
+#[test]
+fn cut_on_two_heads() {
+    let mut call = over_heads(&[1, 2], &[0x86, 0x86, 0x9E, 0x03]);
+    let reading = call.done();
+    assert_eq!(reading.end, End::Run(run::End::Chain));
+    assert_eq!(reading.csw, [0, 0, 0, 0x20, 0x0C, 0, 0, 1]);
+    assert_eq!(made(&reading), [(FiveA, 1), (Five, 1), (FiveA, 2)]);
+    let tracks = reading.recoveries.iter().map(|recovery| recovery.track());
+    assert!(tracks.eq([0, 1, 1].map(track_at)));
+    // The 9E has room for one byte of its count area alone.
+    assert_eq!(call.storage, [1, 1, 0, 0]);
+}
+
+/// "only where the uncut one's last command is an 86 or 8E that ends with End of Cylinder, File
+/// Protected, or a step to a track that isn't in the image may address and count left be those of the
+/// restart's 92".
+#[test]
+fn ends_at_the_restarts_92() {
+    let no_track = UnitCheck::NoRecordFound(NotFoundRule::NextHeadNotInImage);
+    for command in [0x86, 0x8E] {
+        let mut call = over_heads(&[1], &[0x06, command]);
+        let reading = call.done();
+        assert_eq!(reading.end, End::Run(run::End::UnitCheck(no_track)));
+        assert_eq!(reading.csw, [0, 0, 0x10, 0x28, 0x0E, 0, 0, 8]);
+        assert_eq!(call.storage, [1, 0]);
+    }
+    let protected = UnitCheck::FileProtected(ProtectedRule::Step);
+    let mut call = over_heads(&[1, 1], &[0x1F, 0x06, 0x86]).with(|call| {
+        call.chain[..8].copy_from_slice(&ccw(0x1F, 0, 0x40, 1));
+        call.arguments.push(0x18);
+    });
+    let reading = call.done();
+    assert_eq!(reading.end, End::Run(run::End::UnitCheck(protected)));
+    assert_eq!(reading.csw, [0, 0, 0x10, 0x30, 0x0E, 0, 0, 8]);
+}
+
+#[test]
+fn sample_over_two_heads() {
+    let mut call = sample::over_two_heads();
+    let reading = call.done();
+    let end = run::End::UnitCheck(UnitCheck::EndOfCylinder);
+    assert_eq!(reading.end, End::Run(end));
+    assert_eq!(reading.csw, [0, 0, 0x10, 0x28, 0x0E, 0, 0, 8]);
+    assert_eq!(made(&reading), [(FiveA, 1), (FiveA, 1)]);
+    assert_eq!(call.storage[..8], MENDED);
+}
+
+#[test]
+fn ends_in_the_chain_elsewhere() {
+    // A command that is no 86 or 8E.
+    for command in [0x92, 0x9E] {
+        let reading = over_heads(&[1], &[0x06, command]).done();
+        assert_eq!(reading.csw, [0, 0, 0, 0x10, 0x0E, 0, 0, 1]);
+    }
+    // R1 is faulted, R2 is not.
+    let mut call = over_heads(&[2], &[0x86, 0x86, 0x86]);
+    call.faults.truncate(13);
+    let reading = call.done();
+    assert_eq!(reading.csw, [0, 0, 0, 0x18, 0x0E, 0, 0, 1]);
+    assert_eq!(made(&reading), [(FiveA, 1)]);
+    // An end of the chain's last command that no step brings about.
+    let reading = over_heads(&[1], &[0x06, 0x0F]).done();
+    assert_eq!(reading.csw, [0, 0, 0, 0x10, 0x0E, 0, 0, 1]);
 }
 
 #[test]

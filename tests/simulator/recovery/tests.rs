@@ -333,12 +333,28 @@ fn sample_by_5a() {
 
 #[test]
 fn next_command_with_bit_3_on_by_5() {
-    for command in [0x12, 0x1E, 0x1A, 0x31, 0x1F] {
+    for command in [0x12, 0x1E, 0x1A, 0x31, 0x1F, 0x92, 0x9E, 0xB1, 0x9A] {
         let call = Call::sample().with(|call| call.chain[0x20] = command);
         let (action, ccws, _) = call.restart();
         assert_eq!((action, ccws.len()), (RestartAction::Five, 5));
         assert_eq!(ccws[4], ccw(0x08, 0x0020, 0, 0));
     }
+}
+
+#[test]
+fn code_of_the_read_count() {
+    for (command, read_count) in [(0x86, 0x92), (0x8E, 0x92), (0x0E, 0x12), (0x83, 0x12)] {
+        let call = Call::sample().with(|call| call.chain[0x20] = command);
+        let (action, ccws, _) = call.restart();
+        assert_eq!((action, ccws.len()), (RestartAction::FiveA, 6));
+        assert_eq!(ccws[4], ccw(read_count, 0, 0x50, 8));
+    }
+    // Behind a TIC it is the command that counts.
+    let call = Call::sample().with(|call| {
+        call.chain[0x20..].copy_from_slice(&ccw(0x08, 0x10, 0, 0));
+        call.chain[0x10] = 0x86;
+    });
+    assert_eq!(call.restart().1[4], ccw(0x92, 0, 0x50, 8));
 }
 
 #[test]

@@ -8,8 +8,8 @@ use Rattle.decision.proofs.put_restart.Tie as tie
 orient-requires : tie.Need-orient-requires
 orient-requires c κs = search needs
 
-enum-known-counts : tie.Need-enum-known-counts
-enum-known-counts c = search needs
+enum-known-found : tie.Need-enum-known-found
+enum-known-found c = search needs
 
 search-program-requires : tie.Need-search-program-requires
 search-program-requires c κs = search needs
@@ -35,9 +35,9 @@ same-length-2 c = search needs
 returns : tie.Need-returns
 unfolding programBy argumentsBy
 returns c =
-    let at-counts = c .before .before .before .before .before .before .before .before .before in
-    let found = sym (at-counts .before .before .orient .ensures) ∙ at-counts .counts .given .1 in
-    (rw found (c .before .before .before .before .before .before .search-program .ensures), rw found (c .before .before .search-arguments .ensures))
+    let at-found = c .before .before .before .before .before .before .before .before .before in
+    let is = sym (at-found .before .before .orient .ensures) ∙ at-found .found .given .1 in
+    (rw is (c .before .before .before .before .before .before .search-program .ensures), rw is (c .before .before .search-arguments .ensures))
 
 same-length-3 : tie.Need-same-length-3
 same-length-3 c = search needs
@@ -49,15 +49,15 @@ returns-2 : tie.Need-returns-2
 unfolding programBy argumentsBy
 returns-2 c =
     let at-enum-told = c .before .before .before .before .before .before .before .before in
-    let found = sym (at-enum-told .before .before .orient .ensures) ∙ at-enum-told .enum-told .given .1 in
-    (rw found (c .before .before .before .before .before .before .home-program .ensures), rw found (c .before .before .begin-arguments .ensures))
+    let is = sym (at-enum-told .before .before .orient .ensures) ∙ at-enum-told .enum-told .given .1 in
+    (rw is (c .before .before .before .before .before .before .home-program .ensures), rw is (c .before .before .begin-arguments .ensures))
 
 pub put-restart-spec : {M : Type 1} → statement M
 put-restart-spec =
     tie.close
     (tie.spec
     orient-requires
-    enum-known-counts
+    enum-known-found
     search-program-requires
     search-arguments-requires
     enum-told

@@ -52,6 +52,18 @@ enum-told-8 c = search needs
 readable-requires-2 : tie.Need-readable-requires-2
 readable-requires-2 c κs = search needs
 
+enum-told-9 : tie.Need-enum-told-9
+enum-told-9 c = search needs
+
+argument-sound-requires-5 : tie.Need-argument-sound-requires-5
+argument-sound-requires-5 c κs = search needs
+
+enum-told-10 : tie.Need-enum-told-10
+enum-told-10 c = search needs
+
+readable-requires-3 : tie.Need-readable-requires-3
+readable-requires-3 c κs = search needs
+
 returns : tie.Need-returns
 unfolding sound
 returns c = λ p e f. rw (c .before .enum-told .given .1) (c .formed .ensures)
@@ -84,6 +96,14 @@ returns-8 : tie.Need-returns-8
 unfolding sound
 returns-8 c = λ p e f. rw (c .before .enum-told8 .given .1) (c .readable2 .ensures)
 
+returns-9 : tie.Need-returns-9
+unfolding sound
+returns-9 c = λ p e f. rw (c .before .enum-told9 .given .1) (c .argument-sound5 .ensures p e f)
+
+returns-10 : tie.Need-returns-10
+unfolding sound
+returns-10 c = λ p e f. rw (c .before .enum-told10 .given .1) (c .readable3 .ensures)
+
 pub sound-spec : {M : Type 1} → statement M
 sound-spec =
     tie.close
@@ -104,6 +124,10 @@ sound-spec =
     readable-requires
     enum-told-8
     readable-requires-2
+    enum-told-9
+    argument-sound-requires-5
+    enum-told-10
+    readable-requires-3
     returns
     returns-2
     returns-3
@@ -111,4 +135,6 @@ sound-spec =
     returns-5
     returns-6
     returns-7
-    returns-8)
+    returns-8
+    returns-9
+    returns-10)

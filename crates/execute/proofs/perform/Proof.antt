@@ -1,87 +1,110 @@
--- `execute::perform` meets its contract: by the command. Assumes nothing.
-use mathlib.Core.Path.{sym, _∙_}
+-- `execute::perform` meets its contract: by where the command is done. Assumes nothing.
+use mathlib.Core.Path.{ap, _∙_}
+use lib.ListN.{length}
+use Rattle.command.specs.declared.Check.the-variants.{NotFound, Protected, EndOfCylinder}
+use Rattle.command.specs.Answer.{lentOf}
+use Rattle.heads.specs.Reached.{reachedOf}
 use Rattle.read_command.proofs.Moves.{inside-low}
-use Rattle.execute.proofs.Commands.{other-moveless, argument-there, home-ready, record-ready, home-performs, record-performs, other-performs}
+use Rattle.execute.specs.Executes.{singleTrack}
+use Rattle.execute.proofs.Commands.{single-sound, failed-performs, reached-performs}
 use borrow.Author.Needs.{needs}
 use Rattle.execute.proofs.perform.Statement.{statement}
 use Rattle.execute.proofs.perform.Tie as tie
 
+single-track-requires : tie.Need-single-track-requires
+single-track-requires c κs = search needs
+
+reach-requires : tie.Need-reach-requires
+reach-requires c κs = search needs
+
 enum-told : tie.Need-enum-told
 enum-told c = search needs
 
-read-home-requires : tie.Need-read-home-requires
-read-home-requires c κs =
-    let start = c .before .before .before .before .before .before .before .before .before .before in
-    let pre = start .pre in
-    let code = sym (pre .1 .1 .1 .0) ∙ c .before .enum-told .given .1 in
-    (home-ready _ (start .args .arguments .now) _ (start .args .restart-arguments .now) _ (start .args .c) _ code (pre .0 .short) (pre .1 .0) (pre .1 .1 .1 .1), (pre .0 .whole, pre .1 .1 .0))
+refuse-requires : tie.Need-refuse-requires
+refuse-requires c κs =
+    let pre = c .before .before .before .before .before .before .before .before .before .before .before .pre in
+    (inside-low _ _ (pre .0 .short) _ (pre .1 .0 .inside), pre .1 .0 .bytes)
 
-enum-known-k : tie.Need-enum-known-k
-enum-known-k c = search needs
+enum-told-2 : tie.Need-enum-told-2
+enum-told-2 c = search needs
 
-read-record-requires : tie.Need-read-record-requires
-read-record-requires c κs =
-    let start = c .before .before .before .before .before .before .before .before .before .before .before in
-    let pre = start .pre in
-    let code = sym (pre .1 .1 .1 .0) ∙ c .before .before .k .given .1 in
-    (record-ready _ (start .args .arguments .now) _ (start .args .restart-arguments .now) _ (start .args .c) _ _ code (pre .0 .short) (pre .1 .0) (pre .1 .1 .1 .1), (pre .0, (code, pre .1 .1 .0)))
+refuse-requires-2 : tie.Need-refuse-requires-2
+refuse-requires-2 c κs =
+    let pre = c .before .before .before .before .before .before .before .before .before .before .before .pre in
+    (inside-low _ _ (pre .0 .short) _ (pre .1 .0 .inside), pre .1 .0 .bytes)
 
-perform-requires : tie.Need-perform-requires
-perform-requires c κs =
-    let start = c .before .before .before .before .before .before .before .before in
+enum-told-3 : tie.Need-enum-told-3
+enum-told-3 c = search needs
+
+refuse-requires-3 : tie.Need-refuse-requires-3
+refuse-requires-3 c κs =
+    let pre = c .before .before .before .before .before .before .before .before .before .before .before .pre in
+    (inside-low _ _ (pre .0 .short) _ (pre .1 .0 .inside), pre .1 .0 .bytes)
+
+enum-known-e : tie.Need-enum-known-e
+enum-known-e c = search needs
+
+perform-on-track-requires : tie.Need-perform-on-track-requires
+perform-on-track-requires c κs =
+    let at-e = c .before .before in
+    let reach = at-e .before .before in
+    let track = reach .before .single-track .ensures in
+    let start = reach .before .before .before .before .before .before .before .before .before in
+    let a = start .args in
     let pre = start .pre in
-    let a = start .args in (
-      pre .1 .1 .0,
-      (
-        inside-low _ _ (pre .0 .short) _ (pre .1 .0 .inside),
-        (
-          pre .1 .0 .bytes,
-          (
-            other-moveless (a .k) (c .match .keys3),
-            argument-there (a .chain .now) _ (a .program .now) _ _ (a .c) (a .storage .now) (a .k) (pre .1 .1 .1 .0) (pre .1 .1 .1 .1),
-          ),
-        ),
-      ),
-    )
+    let sound = single-sound (lentOf (a .chain .now) (a .arguments .now) (a .program .now) (a .restart-arguments .now)) _ (length (a .storage .now)) (a .c) (a .k) (pre .1 .1 .1 .1) in
+    (pre .0, (pre .1 .0, (rw (at-e .e .given .1) at (reach .reach .ensures .1), (track ∙ ap singleTrack (pre .1 .1 .1 .0), rw track sound))))
+
+returns : tie.Need-returns
+returns c =
+    let reach = c .before .before .before in
+    let a = reach .before .before .before .before .before .before .before .before .before .args in
+    let refuse = c .refuse in
+    (failed-performs _ (a .arguments .now) _ (a .restart-arguments .now) (a .image .now) _ _ (a .c) (a .k) _ (refuse .result) (a .d) (reach .reach .result) NotFound (ap reachedOf (c .before .enum-told .given .1)) (reach .reach .ensures .0) (refuse .ensures .0), refuse .ensures .1 _)
+
+returns-2 : tie.Need-returns-2
+returns-2 c =
+    let reach = c .before .before .before in
+    let a = reach .before .before .before .before .before .before .before .before .before .args in
+    let refuse = c .refuse2 in
+    (failed-performs _ (a .arguments .now) _ (a .restart-arguments .now) (a .image .now) _ _ (a .c) (a .k) _ (refuse .result) (a .d) (reach .reach .result) Protected (ap reachedOf (c .before .enum-told2 .given .1)) (reach .reach .ensures .0) (refuse .ensures .0), refuse .ensures .1 _)
+
+returns-3 : tie.Need-returns-3
+returns-3 c =
+    let reach = c .before .before .before in
+    let a = reach .before .before .before .before .before .before .before .before .before .args in
+    let refuse = c .refuse3 in
+    (failed-performs _ (a .arguments .now) _ (a .restart-arguments .now) (a .image .now) _ _ (a .c) (a .k) _ (refuse .result) (a .d) (reach .reach .result) EndOfCylinder (ap reachedOf (c .before .enum-told3 .given .1)) (reach .reach .ensures .0) (refuse .ensures .0), refuse .ensures .1 _)
 
 same-length : tie.Need-same-length
 same-length c = search needs
 
-returns : tie.Need-returns
-returns c =
-    let at-enum-told = c .before .before .before .before in
-    let start = at-enum-told .before .before .before .before .before .before .before .before .before in
-    let code = sym (start .pre .1 .1 .1 .0) ∙ at-enum-told .enum-told .given .1 in
-    let done = c .before .before .read-home in
-    (home-performs _ _ _ _ _ _ _ _ _ (start .args .storage .now) (done .result) _ code (done .ensures .0), done .ensures .1)
-
-same-length-2 : tie.Need-same-length-2
-same-length-2 c = search needs
-
-returns-2 : tie.Need-returns-2
-returns-2 c =
-    let at-k = c .before .before .before .before .before in
-    let start = at-k .before .before .before .before .before .before .before .before .before in
-    let code = sym (start .pre .1 .1 .1 .0) ∙ at-k .k .given .1 in
-    let done = c .before .before .read-record in
-    (record-performs _ _ _ _ _ _ _ _ _ (start .args .storage .now) (done .result) _ _ code (done .ensures .0), done .ensures .1)
-
-returns-3 : tie.Need-returns-3
-returns-3 c =
-    let start = c .before .before .before .before .before .before .before .before .before in
-    (other-performs _ _ _ _ _ _ _ _ _ (start .args .storage .now) (c .perform .result) _ (start .pre .1 .1 .1 .0) (c .perform .ensures .0), c .perform .ensures .1)
+returns-4 : tie.Need-returns-4
+returns-4 c =
+    let done = c .before .before .perform-on-track in
+    let at-e = c .before .before .before .before .before in
+    let reach = at-e .before .before in
+    let track = reach .before .single-track .ensures in
+    let a = reach .before .before .before .before .before .before .before .before .before .args in
+    let reached = rw (at-e .e .given .1) at (reach .reach .ensures .0) in
+    (reached-performs _ (a .arguments .now) _ (a .restart-arguments .now) (a .image .now) _ _ (a .c) (a .k) (a .storage .now) (done .result) (a .d) (at-e .e .given .0 .0) _ reached (rw track at (done .ensures .0)), done .ensures .1)
 
 pub perform-spec : {M : Type 1} → statement M
 perform-spec =
     tie.close
     (tie.spec
+    single-track-requires
+    reach-requires
     enum-told
-    read-home-requires
-    enum-known-k
-    read-record-requires
-    perform-requires
-    same-length
+    refuse-requires
+    enum-told-2
+    refuse-requires-2
+    enum-told-3
+    refuse-requires-3
+    enum-known-e
+    perform-on-track-requires
     returns
-    same-length-2
     returns-2
-    returns-3)
+    returns-3
+    same-length
+    returns-4)

@@ -1,4 +1,6 @@
 -- `explain_names::command_index` meets its contract. Assumes nothing.
+use Prim.Native.Nat.{_+_}
+use mathlib.Core.Path.{ap}
 use Rattle.explain_names.specs.Names.{commandIndex}
 use borrow.Author.Needs.{needs}
 use Rattle.explain_names.proofs.command_index.Statement.{statement}
@@ -31,6 +33,18 @@ enum-known-k c = search needs
 read-index-requires : tie.Need-read-index-requires
 read-index-requires c κs = search needs
 
+enum-told-8 : tie.Need-enum-told-8
+enum-told-8 c = search needs
+
+enum-known-k-2 : tie.Need-enum-known-k-2
+enum-known-k-2 c = search needs
+
+read-index-requires-2 : tie.Need-read-index-requires-2
+read-index-requires-2 c κs = search needs
+
+add-result : tie.Need-add-result
+add-result c = search needs
+
 returns : tie.Need-returns
 unfolding commandIndex
 returns c = rw (c .enum-told .given .1)
@@ -61,7 +75,15 @@ returns-7 c = rw (c .enum-told7 .given .1)
 
 returns-8 : tie.Need-returns-8
 unfolding commandIndex
-returns-8 c = rw (c .before .before .k .given .1) (c .read-index .ensures)
+returns-8 c = rw (c .before .before .k .given .1) (c .read-index .ensures .0)
+
+returns-9 : tie.Need-returns-9
+unfolding commandIndex
+returns-9 c = rw (c .enum-told8 .given .1)
+
+returns-10 : tie.Need-returns-10
+unfolding commandIndex
+returns-10 c = rw (c .before .before .k2 .given .1) (ap (λ n. n + 5) (c .read-index2 .ensures .0))
 
 pub command-index-spec : {M : Type 1} → statement M
 command-index-spec =
@@ -76,6 +98,10 @@ command-index-spec =
     enum-told-7
     enum-known-k
     read-index-requires
+    enum-told-8
+    enum-known-k-2
+    read-index-requires-2
+    add-result
     returns
     returns-2
     returns-3
@@ -83,4 +109,6 @@ command-index-spec =
     returns-5
     returns-6
     returns-7
-    returns-8)
+    returns-8
+    returns-9
+    returns-10)

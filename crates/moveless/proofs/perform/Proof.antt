@@ -1,7 +1,7 @@
--- `moveless::perform` meets its contract by cases of the command; reads are excluded. Assumes nothing.
+-- `moveless::perform` meets its contract by cases of the command; reads and multitrack commands are excluded. Assumes nothing.
 use mathlib.Core.Path.{ap}
 use Rattle.control.specs.Control.{argues}
-use Rattle.control.proofs.Plans.{no-home, no-record, noop-performs, unlisted-performs}
+use Rattle.control.proofs.Plans.{no-home, no-record, no-search-multitrack, no-read-multitrack, noop-performs, unlisted-performs}
 use borrow.Author.Needs.{needs}
 use Rattle.moveless.proofs.perform.Statement.{statement}
 use Rattle.moveless.proofs.perform.Tie as tie
@@ -66,6 +66,18 @@ enum-told-8 c = search needs
 refuse-requires-3 : tie.Need-refuse-requires-3
 refuse-requires-3 c κs = search needs
 
+enum-told-9 : tie.Need-enum-told-9
+enum-told-9 c = search needs
+
+refuse-requires-4 : tie.Need-refuse-requires-4
+refuse-requires-4 c κs = search needs
+
+enum-told-10 : tie.Need-enum-told-10
+enum-told-10 c = search needs
+
+refuse-requires-5 : tie.Need-refuse-requires-5
+refuse-requires-5 c κs = search needs
+
 returns : tie.Need-returns
 returns c = (λ p st e f. rw (c .before .enum-told .given .1) (noop-performs _ _ _ (c .no-operation .result) _ _ _ (c .no-operation .ensures .0) p st e f), c .no-operation .ensures .1)
 
@@ -90,6 +102,12 @@ returns-7 c = no-home (rw (c .before .enum-told7 .given .1) at (c .before .befor
 returns-8 : tie.Need-returns-8
 returns-8 c = no-record _ (rw (c .before .enum-told8 .given .1) at (c .before .before .before .before .before .before .pre .1 .1 .1 .0))
 
+returns-9 : tie.Need-returns-9
+returns-9 c = no-search-multitrack (rw (c .before .enum-told9 .given .1) at (c .before .before .before .before .before .before .pre .1 .1 .1 .0))
+
+returns-10 : tie.Need-returns-10
+returns-10 c = no-read-multitrack _ (rw (c .before .enum-told10 .given .1) at (c .before .before .before .before .before .before .pre .1 .1 .1 .0))
+
 pub perform-spec : {M : Type 1} → statement M
 perform-spec =
     tie.close
@@ -110,6 +128,10 @@ perform-spec =
     refuse-requires-2
     enum-told-8
     refuse-requires-3
+    enum-told-9
+    refuse-requires-4
+    enum-told-10
+    refuse-requires-5
     returns
     returns-2
     returns-3
@@ -117,4 +139,6 @@ perform-spec =
     returns-5
     returns-6
     returns-7
-    returns-8)
+    returns-8
+    returns-9
+    returns-10)

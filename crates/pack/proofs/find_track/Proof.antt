@@ -1,27 +1,26 @@
 -- `pack::find_track` meets its contract. Invariant: in an image that decodes, the track is to be found from here on as from the front.
 -- Measure: the bytes left. Assumes nothing.
 use Prim.Native.Nat.{_-_, _≤_}
-use mathlib.Core.Path.{_≡_, refl, sym, _∙_}
+use mathlib.Core.Path.{_≡_, refl, ap, sym, _∙_}
 use mathlib.Core.Option.{some}
+use mathlib.Core.List.{[], _++_, append-assoc}
 use lib.ListN.{length}
-use Rattle.pack.specs.Pack.{Decoded, decodeAt, trackIn}
+use Rattle.pack.specs.Pack.{Decoded, decodeAt}
 use Rattle.fields.proofs.FieldAt.{bounds}
-use Rattle.pack.proofs.Lookup.{track-here, track-on, no-more}
+use Rattle.pack.proofs.Lookup.{TrackOn, track-here, track-on, no-more}
 use borrow.Author.Needs.{needs}
 use native.Mathlib.Omega.{arith}
 use Rattle.pack.proofs.find_track.Statement.{statement}
 use Rattle.pack.proofs.find_track.Tie as tie
 
 abbrev Inv-loop : tie.InvT-loop
-Inv-loop image a here₀ here =
-    ((d : Decoded) → decodeAt image 0 ≡ some d → (e : Decoded) × (decodeAt image here ≡ some e) × (trackIn (d .tracks) a ≡ trackIn (e .tracks) a))
-    × (here ≤ length image)
+Inv-loop image a here₀ here = ((d : Decoded) → decodeAt image 0 ≡ some d → TrackOn image d a here) × (here ≤ length image)
 
 abbrev μ-loop : tie.MeasureT-loop
 μ-loop image a here₀ here = length image - here
 
 loop-holds : tie.Need-loop-holds Inv-loop μ-loop
-loop-holds c = (λ d h. (d, h, refl), omega arith)
+loop-holds c = (λ d h. (d, h, refl, [], refl), omega arith)
 
 field-at-requires : tie.Need-field-at-requires Inv-loop μ-loop
 field-at-requires c κs = search needs
@@ -51,7 +50,7 @@ returns-2 c =
     let call = field .before .before in
     let i = call .before .loop .inv .0 d h in
     let t = track-here _ _ (i .0) (i .1) (sym (call .field-at .ensures) ∙ field .tag .given .1) _ (sym (c .before .is-track .ensures) ∙ c .if1 .taken) in
-    (t .0, t .1, i .2 ∙ t .2, t .3, t .4)
+    (t .0, t .1, i .2 ∙ t .2, t .3, t .4, i .3, i .4 ∙ ap (λ ts. i .3 ++ ts) (t .5))
 
 loop-less : tie.Need-loop-less Inv-loop μ-loop
 loop-less c =
@@ -67,7 +66,7 @@ loop-again c =
       λ d h.
           let i = call .before .loop .inv .0 d h in
           let t = track-on _ _ (i .0) (i .1) e _ (sym (c .before .is-track .ensures) ∙ c .if1 .left) in
-          (t .0, t .1, i .2 ∙ t .2),
+          (t .0, t .1, i .2 ∙ t .2, i .3 ++ t .3, i .4 ∙ ap (λ ts. i .3 ++ ts) (t .4) ∙ sym (append-assoc (i .3) (t .3) _)),
       bounds _ _ e .2,
     )
 

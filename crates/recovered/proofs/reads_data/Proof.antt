@@ -12,8 +12,15 @@ returns : tie.Need-returns
 unfolding readsData
 returns c = rw (c .before .k .given .1)
 
+enum-known-k-2 : tie.Need-enum-known-k-2
+enum-known-k-2 c = search needs
+
 returns-2 : tie.Need-returns-2
-returns-2 c = no-data _ (c .match .keys2)
+unfolding readsData
+returns-2 c = rw (c .before .k2 .given .1)
+
+returns-3 : tie.Need-returns-3
+returns-3 c = no-data _ (c .match .keys3)
 
 pub reads-data-spec : {M : Type 1} → statement M
-reads-data-spec = tie.close (tie.spec enum-known-k returns returns-2)
+reads-data-spec = tie.close (tie.spec enum-known-k enum-known-k-2 returns returns-2 returns-3)

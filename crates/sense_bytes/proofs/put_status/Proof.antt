@@ -31,6 +31,12 @@ enum-told-4 c = search needs
 put-check-requires-4 : tie.Need-put-check-requires-4
 put-check-requires-4 c κs = search needs
 
+enum-told-5 : tie.Need-enum-told-5
+enum-told-5 c = search needs
+
+put-check-requires-5 : tie.Need-put-check-requires-5
+put-check-requires-5 c κs = search needs
+
 same-length : tie.Need-same-length
 same-length c = search needs
 
@@ -68,6 +74,16 @@ returns-4 c =
     let at-s = at-enum-told4 .before .before .before in
     rw (at-s .s .given .1, at-enum-told4 .enum-told4 .given .1) (c .before .before .put-check4 .ensures)
 
+same-length-5 : tie.Need-same-length-5
+same-length-5 c = search needs
+
+returns-5 : tie.Need-returns-5
+unfolding Step.noSense Step.checkSense
+returns-5 c =
+    let at-enum-told5 = c .before .before .before .before in
+    let at-s = at-enum-told5 .before .before .before in
+    rw (at-s .s .given .1, at-enum-told5 .enum-told5 .given .1) (c .before .before .put-check5 .ensures)
+
 pub put-status-spec : {M : Type 1} → statement M
 put-status-spec =
     tie.close
@@ -81,6 +97,8 @@ put-status-spec =
     put-check-requires-3
     enum-told-4
     put-check-requires-4
+    enum-told-5
+    put-check-requires-5
     same-length
     returns
     same-length-2
@@ -88,4 +106,6 @@ put-status-spec =
     same-length-3
     returns-3
     same-length-4
-    returns-4)
+    returns-4
+    same-length-5
+    returns-5)
