@@ -359,16 +359,25 @@ impl<'a> Drive<'a> {
         if self.mask.unwrap_or(0) & MASK_SEEK_INHIBITED == MASK_SEEK_INHIBITED {
             return Err(UnitCheck::FileProtected(ProtectedRule::Step));
         }
-        self.to_track(TrackAddress {
-            head: self.track.head + 1,
-            ..self.track
-        });
+        self.to_track(self.next_head());
         self.to_index();
         if self.records.is_none() {
             return Err(UnitCheck::NoRecordFound(NotFoundRule::NextHeadNotInImage));
         }
         self.steps += 1;
         Ok(())
+    }
+
+    fn next_head(&self) -> TrackAddress {
+        TrackAddress {
+            head: self.track.head + 1,
+            ..self.track
+        }
+    }
+
+    /// Whether the next head's track is in the image.
+    pub fn has_next_head(&self) -> bool {
+        self.pack.track(self.next_head()).is_some()
     }
 
     fn to_track(&mut self, track: TrackAddress) {

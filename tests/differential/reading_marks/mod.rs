@@ -94,6 +94,8 @@ rules! {
         SameRecord,
         OtherRecord,
         OtherTrack,
+        // Of three or more recoveries, on as many tracks.
+        ThreeTracks,
         FiveBehindFiveA,
         FiveABehindFive,
         // No mask at the first, a mask at the second.

@@ -100,7 +100,7 @@ fn see_recovery(
     }
 }
 
-fn events_of(lent: &GeneratedReading, read: &Reading) -> [(ReadingEvent, bool); 10] {
+fn events_of(lent: &GeneratedReading, read: &Reading) -> [(ReadingEvent, bool); 11] {
     let by = |recovery: &Recovery| recovery.recovered.answer.clone();
     let (five, five_a) = (RestartAction::Five, RestartAction::FiveA);
     let (five, five_a) = (Answer::Restart(five), Answer::Restart(five_a));
@@ -125,6 +125,13 @@ fn events_of(lent: &GeneratedReading, read: &Reading) -> [(ReadingEvent, bool); 
         (
             ReadingEvent::OtherTrack,
             next(&|one, other| one.track() != other.track()),
+        ),
+        (
+            ReadingEvent::ThreeTracks,
+            (read.recoveries.iter().map(Recovery::track))
+                .collect::<BTreeSet<_>>()
+                .len()
+                > 2,
         ),
         (
             ReadingEvent::FiveBehindFiveA,
