@@ -34,3 +34,5 @@ mod recovery_marks;
 #[allow(dead_code)]
 #[path = "differential/reports/mod.rs"]
 mod reports;
+#[path = "differential/step_marks.rs"]
+mod step_marks;

@@ -3,7 +3,9 @@
 
 use crate::lendings::GeneratedReading;
 use crate::simulator::channel::Ccw;
-use crate::simulator::drive::{Done, UnitCheck, READ_DATA_MULTITRACK, READ_KEY_DATA_MULTITRACK};
+use crate::simulator::drive::{
+    Done, Drive, UnitCheck, READ_DATA_MULTITRACK, READ_KEY_DATA_MULTITRACK,
+};
 use crate::simulator::extent::Extent;
 use crate::simulator::faults::FaultList;
 use crate::simulator::held::RECOVERY_ENTRY;
@@ -36,13 +38,39 @@ pub struct LastTwo {
 }
 
 impl Watch for LastTwo {
-    fn command(&mut self, ccw: &Ccw, _argument: &[u8], done: &Result<Done, UnitCheck>) {
+    fn command(
+        &mut self,
+        ccw: &Ccw,
+        _argument: &[u8],
+        done: &Result<Done, UnitCheck>,
+        _drive: &Drive,
+    ) {
         let area = match done {
             Ok(Done::Read(arriving)) => arriving.data_area,
             _ => None,
         };
         self.command = ccw.command;
         self.taken = [self.taken[1], area.map(|area| (area.track, area.number))];
+    }
+}
+
+impl LastTwo {
+    fn takes_data(&self) -> bool {
+        [READ_DATA_MULTITRACK, READ_KEY_DATA_MULTITRACK].contains(&self.command)
+    }
+
+    fn is_behind_faulted(&self, faults: &FaultList) -> bool {
+        self.taken[0].is_some_and(|(track, number)| faults.of(track, number).is_some())
+    }
+
+    /// The code of a last command that ends by a step and is no exception for one reason alone: another
+    /// code behind a faulted data area, or an 86 or 8E that is not right behind one.
+    fn beside(&self, run: &Outcome, faults: &FaultList) -> Option<u8> {
+        let End::UnitCheck(ended_by) = run.end else {
+            return None;
+        };
+        let one_reason = self.takes_data() != self.is_behind_faulted(faults);
+        (one_reason && ended_by.is_of_a_step()).then_some(self.command)
     }
 }
 
@@ -60,10 +88,8 @@ impl AtReadCount {
         let End::UnitCheck(ended_by) = run.end else {
             return None;
         };
-        let takes_data = [READ_DATA_MULTITRACK, READ_KEY_DATA_MULTITRACK].contains(&last.command);
-        let (track, number) = last.taken[0]?;
-        faults.of(track, number)?;
-        (takes_data && ended_by.is_of_a_step()).then_some(AtReadCount {
+        let is_so = last.takes_data() && last.is_behind_faulted(faults) && ended_by.is_of_a_step();
+        is_so.then_some(AtReadCount {
             ended_by,
             is_masked: run.mask.is_some(),
         })
@@ -88,6 +114,8 @@ pub struct Faultless {
     /// Of the reading.
     csw: [u8; 8],
     pub at_read_count: Option<AtReadCount>,
+    /// Of a last command that is nearly an exception.
+    pub beside_read_count: Option<u8>,
     storage: Vec<u8>,
     /// The faulted data areas that it reads, in order.
     areas: Vec<Area>,
@@ -131,6 +159,7 @@ impl Faultless {
                     extent,
                     csw: csw_of_reading(run.csw, at_read_count),
                     at_read_count,
+                    beside_read_count: last.beside(&run, &faults),
                     storage,
                     areas: faulted_areas(&run, &faults),
                 })

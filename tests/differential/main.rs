@@ -25,6 +25,7 @@ mod recovery_marks;
 mod reports;
 mod runs;
 mod sizes;
+mod step_marks;
 mod tally;
 
 use compare::{Comparison, Disagreement};

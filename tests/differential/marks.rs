@@ -2,15 +2,16 @@
 
 use crate::chains::COMMANDS;
 use crate::simulator::channel::{
-    Ccw, ProgramCheck, ReadEnd, Stretch, CCW_LENGTH, FLAG_CHAIN_DATA, RESTART_PROGRAM,
+    Ccw, ReadEnd, Stretch, CCW_LENGTH, FLAG_CHAIN_DATA, RESTART_PROGRAM,
 };
 use crate::simulator::drive::{
-    is_multitrack, single_track, Arriving, Done, NotFoundRule, UnitCheck, MASK_SEEK_INHIBITED,
-    NO_SECTOR, READ_COUNT, READ_COUNT_KEY_DATA, READ_COUNT_MULTITRACK, READ_DATA,
-    READ_DATA_MULTITRACK, READ_HOME_ADDRESS, READ_KEY_DATA, READ_KEY_DATA_MULTITRACK,
-    SEARCH_ID_EQUAL, SEARCH_ID_EQUAL_MULTITRACK, SET_FILE_MASK, SET_SECTOR, TAKING_DATA,
+    is_multitrack, single_track, Arriving, Done, Drive, UnitCheck, NO_SECTOR, READ_COUNT,
+    READ_COUNT_KEY_DATA, READ_COUNT_MULTITRACK, READ_DATA, READ_DATA_MULTITRACK, READ_KEY_DATA,
+    READ_KEY_DATA_MULTITRACK, SEARCH_ID_EQUAL, SEARCH_ID_EQUAL_MULTITRACK, SET_FILE_MASK,
+    SET_SECTOR, TAKING_DATA,
 };
 use crate::simulator::run::{End, Outcome, Watch};
+use crate::step_marks::{StepMark, StepMarks};
 use std::collections::BTreeSet;
 use std::fmt;
 
@@ -29,9 +30,8 @@ pub enum Mark {
     Faulted(u8),
     /// The record whose count area the first of these commands passed, taken by the second.
     Passed(u8, u8),
-    /// A step to the next head, mask bits 3 and 4 at this.
-    SteppedUnder(u8),
     Met(Event),
+    OverHeads(StepMark),
     /// Length of an area to answer in that is not as it must be.
     AnswerArea(usize),
 }
@@ -67,19 +67,6 @@ rules! {
         CcwOfTheChain,
         // A command of a multitrack code, done or not.
         Multitrack,
-        SearchStepped,
-        ReadStepped,
-        // In one read.
-        SteppedTwice,
-        SteppedOften,
-        SteppedSeventeenTimes,
-        // By a read that began at the index.
-        SteppedFromR0Alone,
-        R0FoundByStep,
-        IndexPassedTwiceBehindStep,
-        EndOfCylinderUnderMask,
-        StepToNoTrackProtected,
-        MultitrackDataRange,
     }
 }
 
@@ -130,8 +117,8 @@ impl Mark {
             .chain(TAKING_DATA.map(Mark::NoData))
             .chain(TAKING_DATA.map(Mark::Faulted))
             .chain(passed)
-            .chain([0x00, 0x08, 0x10].map(Mark::SteppedUnder))
             .chain(Event::ALL.iter().copied().map(Mark::Met))
+            .chain(StepMark::all().into_iter().map(Mark::OverHeads))
             .chain(ANSWER_AREAS.map(Mark::AnswerArea))
             .collect()
     }
@@ -149,8 +136,8 @@ impl fmt::Display for Mark {
             Mark::NoData(command) => write!(out, "no data for {command:02X}"),
             Mark::Faulted(command) => write!(out, "faulted data for {command:02X}"),
             Mark::Passed(passing, taking) => write!(out, "{taking:02X} behind {passing:02X}"),
-            Mark::SteppedUnder(mask) => write!(out, "step under mask bits {mask:02X}"),
             Mark::Met(event) => write!(out, "{event:?}"),
+            Mark::OverHeads(mark) => mark.fmt(out),
             Mark::AnswerArea(length) => write!(out, "answer area of {length} bytes"),
         }
     }
@@ -177,16 +164,7 @@ pub struct Marks {
     command_before: u8,
     /// Code of the present command.
     command: u8,
-    /// Of a CCW that was fetched, and of which the drive has seen nothing.
-    begun: Option<u8>,
-    /// Whether the present command began behind the index, and whether the next one will.
-    began_behind_index: bool,
-    is_behind_index: bool,
-    /// Whether the present command is a search that found an R0.
-    found_r0: bool,
-    /// Since the last control command.
-    has_stepped: bool,
-    mask: u8,
+    over_heads: StepMarks,
     /// Address of the present read's first CCW, and what its CCWs took.
     first: usize,
     stretches: Vec<Stretch>,
@@ -223,36 +201,13 @@ impl Marks {
             outcome.end == End::Cut && not_stored,
             Event::FaultedAreaNotStored,
         );
-        self.see_end_over_heads(outcome.end);
-    }
-
-    fn see_end_over_heads(&mut self, end: End) {
-        let is_inhibited = self.mask & MASK_SEEK_INHIBITED == MASK_SEEK_INHIBITED;
-        let past_the_last = End::UnitCheck(UnitCheck::EndOfCylinder);
-        let twice = End::UnitCheck(UnitCheck::NoRecordFound(NotFoundRule::IndexPassedTwice));
-        let range = End::ProgramCheck(ProgramCheck::DataRange);
-        self.meet_if(
-            end == past_the_last && is_inhibited,
-            Event::EndOfCylinderUnderMask,
-        );
-        self.meet_if(
-            end == twice && self.has_stepped,
-            Event::IndexPassedTwiceBehindStep,
-        );
-        self.meet_if(
-            end == range && self.begun.is_some_and(is_multitrack),
-            Event::MultitrackDataRange,
-        );
+        self.over_heads.see_end(outcome.end);
     }
 
     fn control(&mut self, command: u8, argument: &[u8]) {
-        self.has_stepped = false;
         match (command, argument) {
             (SET_FILE_MASK, [0]) => self.meet(Event::MaskOfZerosSet),
-            (SET_FILE_MASK, mask) => {
-                self.mask = mask[0];
-                self.meet(Event::MaskSet);
-            }
+            (SET_FILE_MASK, _) => self.meet(Event::MaskSet),
             (SET_SECTOR, [NO_SECTOR]) => self.meet(Event::NoSectorSet),
             (SET_SECTOR, _) => self.meet(Event::SectorSet),
             _ => (),
@@ -289,18 +244,22 @@ impl Marks {
 }
 
 impl Watch for Marks {
-    fn begin(&mut self, ccw: &Ccw) {
-        self.begun = Some(ccw.command);
+    fn begin(&mut self, ccw: &Ccw, drive: &Drive) {
+        self.over_heads.begin(ccw, drive);
     }
 
-    fn command(&mut self, ccw: &Ccw, argument: &[u8], done: &Result<Done, UnitCheck>) {
+    fn command(
+        &mut self,
+        ccw: &Ccw,
+        argument: &[u8],
+        done: &Result<Done, UnitCheck>,
+        drive: &Drive,
+    ) {
+        self.over_heads.command(ccw, argument, done, drive);
         self.meet_if(ccw.at < RESTART_PROGRAM, Event::CcwOfTheChain);
         self.meet_if(is_multitrack(ccw.command), Event::Multitrack);
         self.command_before = self.command;
         self.command = ccw.command;
-        self.begun = None;
-        self.began_behind_index = self.is_behind_index;
-        self.found_r0 = false;
         // What is refused ends the run, and is told by its end.
         let Ok(done) = done else {
             return;
@@ -314,13 +273,10 @@ impl Watch for Marks {
                     equal: false,
                 };
                 self.meet_if(self.before == again, Event::SearchLoop);
-                self.found_r0 = *equal && argument[4] == 0;
-                self.meet_if(self.found_r0, Event::R0Found);
+                self.meet_if(*equal && argument[4] == 0, Event::R0Found);
             }
             Done::Read(arriving) => self.read(ccw, arriving),
         }
-        let goes_on = !matches!(done, Done::Control) && ccw.command != READ_HOME_ADDRESS;
-        self.is_behind_index = goes_on;
         self.before = match done {
             Done::Search { equal } => Before::Search {
                 at: ccw.at,
@@ -329,29 +285,6 @@ impl Watch for Marks {
             Done::Read(_) if single_track(ccw.command) == READ_COUNT => Before::ReadCount,
             _ => Before::Other,
         };
-    }
-
-    fn steps(&mut self, steps: usize) {
-        if steps == 0 {
-            return;
-        }
-        self.see(Mark::SteppedUnder(self.mask & MASK_SEEK_INHIBITED));
-        match self.command {
-            SEARCH_ID_EQUAL_MULTITRACK => self.meet(Event::SearchStepped),
-            _ => {
-                self.meet(Event::ReadStepped);
-                self.meet_if(!self.began_behind_index, Event::SteppedFromR0Alone);
-            }
-        }
-        self.has_stepped = true;
-        self.meet_if(self.found_r0, Event::R0FoundByStep);
-        self.meet_if(steps >= 17, Event::SteppedSeventeenTimes);
-        self.meet_if(steps == 2, Event::SteppedTwice);
-        self.meet_if(steps > 2, Event::SteppedOften);
-    }
-
-    fn step_protected(&mut self, to_none: bool) {
-        self.meet_if(to_none, Event::StepToNoTrackProtected);
     }
 
     fn stretch(&mut self, stretch: &Stretch) {
@@ -389,7 +322,9 @@ impl IntoIterator for Marks {
     type Item = Mark;
     type IntoIter = std::collections::btree_set::IntoIter<Mark>;
 
-    fn into_iter(self) -> Self::IntoIter {
+    fn into_iter(mut self) -> Self::IntoIter {
+        let over_heads = self.over_heads.into_iter().map(Mark::OverHeads);
+        self.seen.extend(over_heads);
         self.seen.into_iter()
     }
 }
@@ -408,6 +343,7 @@ mod tests {
     use crate::chains::GeneratedRun;
     use crate::simulator::encode::ccw;
     use crate::simulator::sample;
+    use crate::step_marks::StepEvent;
 
     /// The marks of the sample with these CCWs behind its seek, or with its own.
     fn marks(ccws: &[[u8; CCW_LENGTH]]) -> BTreeSet<Mark> {
@@ -469,12 +405,12 @@ mod tests {
             Mark::Status(0x0E, 0x00),
             Mark::Sense(0x00, 0x20, 0x00, 0x00),
             Mark::Passed(0x31, 0x06),
-            Mark::SteppedUnder(0x00),
             Mark::Met(Event::SearchLoop),
             Mark::Met(Event::ReadBehindEqualSearch),
             Mark::Met(Event::CcwOfTheChain),
             Mark::Met(Event::Multitrack),
-            Mark::Met(Event::ReadStepped),
+            Mark::OverHeads(StepMark::SteppedUnder(0x00)),
+            Mark::OverHeads(StepMark::Met(StepEvent::ReadStepped)),
         ];
         assert_eq!(marks_of(run), BTreeSet::from(expected));
         assert!(expected.iter().all(|mark| Mark::all().contains(mark)));
@@ -501,76 +437,6 @@ mod tests {
             Event::IncorrectLengthSuppressed,
         ];
         assert_eq!(met(&marks(&one_more)), expected);
-    }
-
-    /// What is met behind the seek of the sample over two heads. Behind its arguments, 11: a mask that inhibits seeks; 12: the R0 of head
-    /// 18; 17: that head's seek.
-    fn met_over_heads(image_length: usize, ccws: &[[u8; CCW_LENGTH]]) -> Vec<Event> {
-        let mut run = sample::over_two_heads().into_run();
-        run.chain.truncate(CCW_LENGTH);
-        run.chain.extend(ccws.as_flattened());
-        run.arguments.extend([MASK_SEEK_INHIBITED, 0, 0, 0, 18, 0]);
-        run.arguments.extend([0, 0, 0, 0, 0, 18]);
-        run.image.truncate(image_length);
-        run.faults.clear();
-        met(&marks_of(run))
-    }
-
-    #[test]
-    fn steps() {
-        let whole = sample::over_two_heads().image.len();
-        let search = [
-            ccw(0xB1, 12, 0x40, 5),
-            ccw(0x08, 8, 0, 0),
-            ccw(0x03, 0, 0, 1),
-        ];
-        let expected = [
-            Event::SearchLoop,
-            Event::R0Found,
-            Event::Multitrack,
-            Event::SearchStepped,
-            Event::R0FoundByStep,
-        ];
-        assert_eq!(met_over_heads(whole, &search), expected);
-        let twice = [
-            ccw(0x86, 0, 0x40, 4),
-            ccw(0x86, 0, 0x40, 4),
-            ccw(0x31, 6, 0x40, 5),
-            ccw(0x08, 0x18, 0, 0),
-        ];
-        let expected = [
-            Event::SearchLoop,
-            Event::Multitrack,
-            Event::ReadStepped,
-            Event::IndexPassedTwiceBehindStep,
-        ];
-        assert_eq!(met_over_heads(whole, &twice), expected);
-        let protected = [
-            ccw(0x1F, 11, 0x40, 1),
-            ccw(0x86, 0, 0x40, 4),
-            ccw(0x86, 0, 0, 4),
-        ];
-        let expected = [Event::MaskSet, Event::Multitrack];
-        assert_eq!(met_over_heads(whole, &protected), expected);
-        let expected = [&expected[..], &[Event::StepToNoTrackProtected]].concat();
-        assert_eq!(met_over_heads(whole / 2, &protected), expected);
-        let past_the_last = [&[ccw(0x07, 17, 0x40, 6)], &protected[..]].concat();
-        let expected = [
-            Event::MaskSet,
-            Event::Multitrack,
-            Event::EndOfCylinderUnderMask,
-        ];
-        assert_eq!(met_over_heads(whole, &past_the_last), expected);
-    }
-
-    #[test]
-    fn data_ranges() {
-        let expected = [Event::MultitrackDataRange];
-        assert_eq!(met(&marks(&[ccw(0x86, 0xFFFF, 0, 8)])), expected);
-        assert_eq!(met(&marks(&[ccw(0xB1, 0xFFFF, 0, 5)])), expected);
-        assert_eq!(met(&marks(&[ccw(0x06, 0xFFFF, 0, 8)])), []);
-        let chained = [ccw(0x92, 0, 0x80, 4), ccw(0, 0xFFFF, 0, 4)];
-        assert_eq!(met(&marks(&chained)), [Event::Multitrack]);
     }
 
     #[test]

@@ -297,6 +297,24 @@ impl<'a> Drive<'a> {
         self.track
     }
 
+    pub fn pack(&self) -> &'a Pack<'a> {
+        self.pack
+    }
+
+    pub fn is_at_index(&self) -> bool {
+        self.place.is_none()
+    }
+
+    /// Whether the track has no record behind the drive's place.
+    pub fn is_behind_last(&self) -> bool {
+        self.records
+            .is_some_and(|records| self.behind() >= records.len())
+    }
+
+    pub fn index_passes(&self) -> u8 {
+        self.index_passes
+    }
+
     /// The record whose count area was just passed.
     pub fn passed(&self) -> Option<&'a Record<'a>> {
         let place = self.place.filter(|_| self.just_passed)?;
@@ -330,6 +348,11 @@ impl<'a> Drive<'a> {
         }
     }
 
+    /// Whether a multitrack command would end on its way to what it searches or reads.
+    pub fn step_fails(&self, command: u8) -> bool {
+        is_multitrack(command) && self.clone().step_on(single_track(command)).is_err()
+    }
+
     /// "Where the single-track form would pass the index, these step to the next head": a read until
     /// a record other than R0 is ahead, a search once, since R0 is on every track.
     fn step_on(&mut self, form: u8) -> Result<(), UnitCheck> {
@@ -359,25 +382,16 @@ impl<'a> Drive<'a> {
         if self.mask.unwrap_or(0) & MASK_SEEK_INHIBITED == MASK_SEEK_INHIBITED {
             return Err(UnitCheck::FileProtected(ProtectedRule::Step));
         }
-        self.to_track(self.next_head());
+        self.to_track(TrackAddress {
+            head: self.track.head + 1,
+            ..self.track
+        });
         self.to_index();
         if self.records.is_none() {
             return Err(UnitCheck::NoRecordFound(NotFoundRule::NextHeadNotInImage));
         }
         self.steps += 1;
         Ok(())
-    }
-
-    fn next_head(&self) -> TrackAddress {
-        TrackAddress {
-            head: self.track.head + 1,
-            ..self.track
-        }
-    }
-
-    /// Whether the next head's track is in the image.
-    pub fn has_next_head(&self) -> bool {
-        self.pack.track(self.next_head()).is_some()
     }
 
     fn to_track(&mut self, track: TrackAddress) {

@@ -48,7 +48,7 @@ pub fn fault(fault: Fault) -> [u8; 10] {
 }
 
 /// An address of up to 24 bits.
-pub fn ccw(command: u8, address: usize, flags: u8, count: u16) -> [u8; CCW_LENGTH] {
+pub const fn ccw(command: u8, address: usize, flags: u8, count: u16) -> [u8; CCW_LENGTH] {
     let [_, a0, a1, a2] = (address as u32).to_be_bytes();
     let [c0, c1] = count.to_be_bytes();
     [command, a0, a1, a2, flags, 0, c0, c1]

@@ -6,7 +6,7 @@ use super::channel::{
     CHANNEL_INCORRECT_LENGTH, FLAG_CHAIN_COMMAND, FLAG_CHAIN_DATA, UNIT_CHECK, UNIT_EXCEPTION,
 };
 use super::drive::{
-    data_check_sense, Arriving, Done, Drive, Operand, ProtectedRule, Sense, UnitCheck, NO_OPERATION,
+    data_check_sense, Arriving, Done, Drive, Operand, Sense, UnitCheck, NO_OPERATION,
 };
 use super::pack::TrackAddress;
 use super::{check_faults, Refusal};
@@ -103,16 +103,18 @@ pub struct Outcome {
 /// Who is told what a run does while it does it; `()` does not listen.
 pub trait Watch {
     /// A CCW was fetched for a command; whether it is a program check is asked next.
-    fn begin(&mut self, _ccw: &Ccw) {}
+    fn begin(&mut self, _ccw: &Ccw, _drive: &Drive) {}
 
-    /// The drive has seen a command; the argument is that of a control or search command.
-    fn command(&mut self, _ccw: &Ccw, _argument: &[u8], _done: &Result<Done, UnitCheck>) {}
-
-    /// That command made so many steps to the next head, even if it was not done in the end.
-    fn steps(&mut self, _steps: usize) {}
-
-    /// The mask forbade that command a step, to a track of the image or to none.
-    fn step_protected(&mut self, _to_none: bool) {}
+    /// The drive has seen a command, and is as that left it; the argument is that of a control or
+    /// search command.
+    fn command(
+        &mut self,
+        _ccw: &Ccw,
+        _argument: &[u8],
+        _done: &Result<Done, UnitCheck>,
+        _drive: &Drive,
+    ) {
+    }
 
     /// A CCW has taken bytes of the read that the drive has just seen.
     fn stretch(&mut self, _stretch: &Stretch) {}
@@ -252,7 +254,7 @@ impl<W: Watch> Machine<'_, W> {
     }
 
     fn command(&mut self, ccw: Ccw) -> Result<(Status, Then), ProgramCheck> {
-        self.watch.begin(&ccw);
+        self.watch.begin(&ccw, &self.drive);
         let argument = match Operand::of(ccw.command) {
             Operand::Nothing => &[],
             Operand::Argument => self.channel.argument(&ccw)?,
@@ -263,11 +265,7 @@ impl<W: Watch> Machine<'_, W> {
         };
         let chained_data = ccw.has(FLAG_CHAIN_DATA);
         let done = self.drive.execute(ccw.command, argument, chained_data);
-        self.watch.command(&ccw, argument, &done);
-        self.watch.steps(self.drive.steps());
-        if let Err(UnitCheck::FileProtected(ProtectedRule::Step)) = done {
-            self.watch.step_protected(!self.drive.has_next_head());
-        }
+        self.watch.command(&ccw, argument, &done, &self.drive);
         match done {
             Ok(Done::Control) => {
                 let count_left = match ccw.command {

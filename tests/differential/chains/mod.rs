@@ -15,7 +15,7 @@ pub use change::{changed, changed_ccw, refused};
 pub use cut::{cut, cut_again, cut_long};
 use ground::Ground;
 pub use plan::{planned, planned_long, planned_loop, planned_reads};
-pub use scatter::{random_bytes, random_ccws, COMMANDS};
+pub use scatter::{multitrack_commands, random_bytes, random_ccws, COMMANDS};
 
 impl GeneratedRun {
     fn of(random: &mut Random, ground: Ground, chain: Vec<u8>, arguments: Vec<u8>) -> GeneratedRun {

@@ -5,7 +5,7 @@ use super::GeneratedRun;
 use crate::random::Random;
 use crate::simulator::channel::CCW_LENGTH;
 use crate::simulator::drive::{
-    single_track, Operand, NO_OPERATION, READ_COUNT, READ_COUNT_KEY_DATA,
+    is_multitrack, single_track, Operand, NO_OPERATION, READ_COUNT, READ_COUNT_KEY_DATA,
     READ_COUNT_KEY_DATA_MULTITRACK, READ_COUNT_MULTITRACK, READ_DATA, READ_DATA_MULTITRACK,
     READ_HOME_ADDRESS, READ_KEY_DATA, READ_KEY_DATA_MULTITRACK, SEARCH_ID_EQUAL,
     SEARCH_ID_EQUAL_MULTITRACK, SEEK, SET_FILE_MASK, SET_SECTOR,
@@ -29,6 +29,10 @@ pub const COMMANDS: [u8; 15] = [
     READ_COUNT_MULTITRACK,
     READ_COUNT_KEY_DATA_MULTITRACK,
 ];
+
+pub fn multitrack_commands() -> impl Iterator<Item = u8> {
+    COMMANDS.into_iter().filter(|&code| is_multitrack(code))
+}
 
 pub fn random_bytes(random: &mut Random) -> GeneratedRun {
     let ground = Ground::new(random);

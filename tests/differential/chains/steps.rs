@@ -43,6 +43,12 @@ pub const FEW_OVER_HEADS: [Step; 8] = [
     Step::Command(NO_OPERATION),
 ];
 
+/// Those that find nothing, of which every longer sequence is tried.
+pub const IN_VAIN: [Step; 2] = [
+    Step::Search(SEARCH_ID_EQUAL, 0, NO_RECORD),
+    Step::Search(SEARCH_ID_EQUAL_MULTITRACK, 0, NO_RECORD),
+];
+
 /// Searches that are mostly vain pass the index now and then.
 const MANY: [Step; 24] = [
     Step::Search(SEARCH_ID_EQUAL, 0, 0),
@@ -208,6 +214,7 @@ mod tests {
     #[test]
     fn every_sequence() {
         assert_eq!(every(5, &FEW).len(), FEW.len().pow(5));
+        assert_eq!(every(8, &IN_VAIN).len(), 256);
         assert!(every(3, &FEW_OVER_HEADS)
             .iter()
             .all(|steps| steps.len() == 3));

@@ -8,7 +8,7 @@ use crate::library::{self, ReadingAreas, RestartAreas, RunAreas, ACTION_5, ACTIO
 use crate::random::Random;
 use crate::reading_marks::{marks_of, ReadingMark};
 use crate::simulator::channel::Ccw;
-use crate::simulator::drive::{is_multitrack, Done, UnitCheck};
+use crate::simulator::drive::{is_multitrack, Done, Drive, UnitCheck};
 use crate::simulator::held::{READING_ANSWER, RECOVERY_ENTRY};
 use crate::simulator::reading::{read_watched, Areas, End, Lent, Reading, Recovery};
 use crate::simulator::recovery::RestartAction;
@@ -52,7 +52,7 @@ impl ReadingLeft {
 struct Multitrack(bool);
 
 impl Watch for Multitrack {
-    fn command(&mut self, ccw: &Ccw, _argument: &[u8], _done: &Result<Done, UnitCheck>) {
+    fn command(&mut self, ccw: &Ccw, _: &[u8], _: &Result<Done, UnitCheck>, _: &Drive) {
         self.0 |= is_multitrack(ccw.command);
     }
 }

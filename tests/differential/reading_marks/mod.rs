@@ -2,7 +2,7 @@
 
 mod seen;
 
-use crate::chains::COMMANDS;
+use crate::chains::{multitrack_commands, COMMANDS};
 use crate::demand::Proviso;
 use crate::lendings::{ANSWER_AREAS, LIST_SHORT_BY};
 use crate::recovery_marks::{MaskKind, PatternKind, NO_NEXT};
@@ -42,6 +42,8 @@ pub enum ReadingMark {
     DemandThree(HowMany),
     /// By demand 3 the end is at the restart's 92, for this and with a mask or without.
     AtReadCount(UnitCheck, bool),
+    /// This command ends by a step, and by demand 3 the end is at it all the same.
+    BesideReadCount(u8),
     NotMet(Proviso),
     /// A refusal, by the rule that decided.
     Refused(Refusal),
@@ -133,6 +135,7 @@ impl ReadingMark {
             .chain(ReadingEvent::ALL.iter().copied().map(ReadingMark::Met))
             .chain(HowMany::ALL.iter().copied().map(ReadingMark::DemandThree))
             .chain(at_read_count())
+            .chain(multitrack_commands().map(ReadingMark::BesideReadCount))
             .chain(Proviso::ALL.iter().copied().map(ReadingMark::NotMet))
             .chain(refusals().into_iter().map(ReadingMark::Refused))
             .chain(ANSWER_AREAS.map(ReadingMark::AnswerArea))
@@ -206,6 +209,7 @@ impl fmt::Display for ReadingMark {
             ReadingMark::AtReadCount(ended_by, is_masked) => {
                 write!(out, "end at a 92, {ended_by:?}, mask {is_masked}")
             }
+            ReadingMark::BesideReadCount(command) => write!(out, "end at the {command:02X} itself"),
             ReadingMark::Pattern(kind) => write!(out, "pattern byte {kind:?}"),
             ReadingMark::Met(event) => write!(out, "{event:?}"),
             ReadingMark::DemandThree(how_many) => write!(out, "demand 3, recoveries {how_many:?}"),

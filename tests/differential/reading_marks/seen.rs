@@ -30,6 +30,8 @@ pub fn marks_of(
             marks.extend(
                 at_read_count.map(|at| ReadingMark::AtReadCount(at.ended_by, at.is_masked)),
             );
+            let beside = faultless.beside_read_count.filter(|_| made > 0);
+            marks.extend(beside.map(ReadingMark::BesideReadCount));
         }
         Err(proviso) => {
             marks.insert(ReadingMark::NotMet(*proviso));

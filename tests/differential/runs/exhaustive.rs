@@ -1,5 +1,6 @@
 //! Small runs of which every one of a kind is tried.
 
+use super::started;
 use crate::chains::{steps, GeneratedRestart, GeneratedRun};
 use crate::compare::{Comparison, Disagreement};
 use crate::exhaustive::each_byte_at_each_value;
@@ -15,7 +16,8 @@ pub fn compare_all(comparison: &mut Comparison) -> Result<(), Disagreement> {
     )?;
     each_code_and_flags_byte(comparison)?;
     each_limit(comparison)?;
-    each_few_steps(comparison)
+    each_few_steps(comparison)?;
+    each_search_in_vain(comparison)
 }
 
 /// Document 01's sample.
@@ -117,6 +119,20 @@ fn each_few_steps(comparison: &mut Comparison) -> Result<(), Disagreement> {
     for steps in steps::every(5, &steps::FEW_OVER_HEADS) {
         let run = steps::stepped(0, &[1, 0, 1], &steps);
         comparison.run("each five steps over heads", run)?;
+    }
+    Ok(())
+}
+
+/// Every sequence of eight searches in vain over three heads, the second with R0 alone.
+fn each_search_in_vain(comparison: &mut Comparison) -> Result<(), Disagreement> {
+    for steps in steps::every(8, &steps::IN_VAIN) {
+        let run = steps::stepped(0, &[1, 0, 1], &steps);
+        for restarted in [false, true] {
+            comparison.run(
+                "each eight searches in vain",
+                started(run.clone(), restarted),
+            )?;
+        }
     }
     Ok(())
 }

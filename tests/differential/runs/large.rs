@@ -1,5 +1,6 @@
 //! Runs with areas as long as they may be, and longer. Few, since they take their time.
 
+use super::started;
 use crate::chains::{GeneratedRestart, GeneratedRun};
 use crate::compare::{Comparison, Disagreement};
 use crate::generate::decoded;
@@ -46,20 +47,6 @@ pub fn compare_all(comparison: &mut Comparison) -> Result<(), Disagreement> {
         comparison.run(name, run)?;
     }
     Ok(())
-}
-
-/// Where a restart is wanted, one that does nothing but go to the chain's first CCW.
-fn started(mut run: GeneratedRun, restarted: bool) -> GeneratedRun {
-    if restarted {
-        let mut program = encode::ccw(0x03, 0, 0x40, 1).to_vec();
-        program.extend(encode::ccw(0x08, 0, 0, 0));
-        program.resize(64, 0);
-        run.restart = Some(GeneratedRestart {
-            program,
-            arguments: vec![0; 16],
-        });
-    }
-    run
 }
 
 /// Over a full image, with arguments and storage full; the chain first seeks the last track that has
