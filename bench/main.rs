@@ -1,7 +1,8 @@
 //! The proved library against the simulator, in the same process: checking images, running chains,
-//! recovering, whole readings.
-//!
-//! Prints times and ratios; no time makes it fail.
+//! recovering, whole readings. Prints times and ratios.
+//!     bench             all of it
+//!     bench in-place    what a recovery takes by the length of the record, and no more
+//! Either fails if the longest record takes a recovery more than twice the time of a short one.
 
 #[path = "../tests/differential/library.rs"]
 mod library;
@@ -9,14 +10,29 @@ mod library;
 mod simulator;
 
 mod images;
+mod in_place;
 mod readings;
 mod recoveries;
 mod runs;
 mod times;
 
-fn main() {
-    images::print();
-    runs::print();
-    recoveries::print();
-    readings::print();
+use std::env;
+use std::process::ExitCode;
+
+fn main() -> ExitCode {
+    let arguments: Vec<String> = env::args().skip(1).collect();
+    match arguments.iter().map(String::as_str).collect::<Vec<_>>()[..] {
+        [] => {
+            images::print();
+            runs::print();
+            recoveries::print();
+            readings::print();
+        }
+        ["in-place"] => {}
+        _ => {
+            eprintln!("bench: `in-place` or nothing");
+            return ExitCode::from(2);
+        }
+    }
+    in_place::check()
 }

@@ -6,39 +6,33 @@ use crate::simulator::encode::{self, ccw};
 use crate::simulator::held::{HeldRecovery, RECOVERY_ANSWER};
 use crate::simulator::pack::LONGEST_RECORD;
 use crate::simulator::report::Report;
-use crate::times::{measured, Times};
+use crate::times::measured;
 
 /// A cut whose correction changes the last three bytes of the read.
-struct Workload {
+pub struct Workload {
     name: &'static str,
-    bytes: usize,
-    held: HeldRecovery,
+    pub bytes: usize,
+    pub held: HeldRecovery,
 }
 
 /// Recoveries of one measurement.
-const CALLS: u32 = 2_000;
+pub const CALLS: u32 = 2_000;
 
 const STORAGE: usize = 65_536;
 const MOST_CCWS: usize = 256;
-const FEW_BYTES: usize = 30;
+pub const FEW_BYTES: usize = 30;
 
 pub fn print() {
     println!(
         "{:<32}{:>10}{:>14}{:>14}{:>8}",
         "recovering by action 5", "bytes", "library ns", "simulator ns", "ratio"
     );
-    let [few, many] = [FEW_BYTES, LONGEST_RECORD].map(|bytes| printed(one_ccw(bytes)));
-    println!(
-        "{:<32}{:>10}{:>14.2}{:>14.2}",
-        "  many bytes over few",
-        "",
-        many.library / few.library,
-        many.simulator / few.simulator
-    );
+    printed(one_ccw(FEW_BYTES));
+    printed(one_ccw(LONGEST_RECORD));
     printed(full_chain());
 }
 
-fn printed(workload: Workload) -> Times {
+fn printed(workload: Workload) {
     let Workload { name, bytes, held } = workload;
     let times = measured(
         CALLS,
@@ -53,11 +47,10 @@ fn printed(workload: Workload) -> Times {
         times.simulator,
         times.ratio()
     );
-    times
 }
 
 /// A 06 and a command behind it: the answer is a restart.
-fn one_ccw(bytes: usize) -> Workload {
+pub fn one_ccw(bytes: usize) -> Workload {
     let ccws = [ccw(0x06, 0, 0x40, bytes as u16), ccw(0x06, 0, 0, 1)];
     workload("read by one CCW", bytes, ccws.concat())
 }
@@ -99,7 +92,7 @@ fn workload(name: &'static str, bytes: usize, chain: Vec<u8>) -> Workload {
     Workload { name, bytes, held }
 }
 
-fn recovered_by_library(held: &mut HeldRecovery) -> u8 {
+pub fn recovered_by_library(held: &mut HeldRecovery) -> u8 {
     library::recover_held(held, &mut [0; RECOVERY_ANSWER])
 }
 

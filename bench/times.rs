@@ -3,8 +3,11 @@
 use std::hint::black_box;
 use std::time::Instant;
 
-/// Measurements of each entry; the least one counts.
+/// Measurements of each entry; of times the least one counts.
 const REPEATS: usize = 25;
+
+/// Measurements of a ratio, an odd number; the median counts.
+const RATIOS: usize = 101;
 
 /// Nanoseconds for one call.
 pub struct Times {
@@ -48,6 +51,27 @@ pub fn least<const ENTRIES: usize>(
         }
     }
     least
+}
+
+/// How often one entry's time stands in another's.
+pub struct Ratios {
+    pub median: f64,
+    pub lowest: f64,
+    pub highest: f64,
+}
+
+/// The time of `long` by that of `short`, which are measured one behind the other, again and again: a load
+/// that comes and goes meets both, and what meets one alone stands at an end of the ratios, not in the middle.
+pub fn ratios(calls: u32, mut long: impl FnMut() -> u8, mut short: impl FnMut() -> u8) -> Ratios {
+    let mut all: Vec<f64> = (0..RATIOS)
+        .map(|_| nanoseconds(calls, &mut long) / nanoseconds(calls, &mut short))
+        .collect();
+    all.sort_by(f64::total_cmp);
+    Ratios {
+        median: all[RATIOS / 2],
+        lowest: all[0],
+        highest: all[RATIOS - 1],
+    }
 }
 
 fn nanoseconds(calls: u32, mut call: impl FnMut() -> u8) -> f64 {

@@ -241,7 +241,8 @@ uint8_t giruve_check_restart_areas(size_t program, size_t restart_arguments);
  *
  * Writes the answer (GIRUVE_AT_RECOVERY_..), and by what it says (GIRUVE_ANSWER_..): storage, where it is mended; the restart program and its
  * arguments, both whole, for GIRUVE_ANSWER_RESTART. Where the seek of a restart would leave the pack or the extent, there is none:
- * GIRUVE_ANSWER_ACTION_2 is answered, and storage keeps its bytes.
+ * GIRUVE_ANSWER_ACTION_2 is answered, and storage keeps its bytes. Of storage it changes the bytes that it mends, three at most, and
+ * copies none: its time goes by the CCWs of the read, not by its bytes.
  */
 uint8_t giruve_recover(const uint8_t *chain, size_t chain_length, const uint8_t *report, size_t report_length,
                        const uint8_t *extent, size_t extent_length, uint8_t *storage, size_t storage_length,

@@ -1,15 +1,17 @@
 #!/usr/bin/env bash
 # Proves every crate, builds library and programs, and runs every test but that of the text (tests/tidy.sh): the scripts of samples/; the
-# commands of the pages, which write the library that further tests link; the simulator's own; the hand-written cases of runs, of recoveries
-# and of whole readings on simulator and library; the tables of docs/REFERENCE.md; library against simulator; the C examples; what the header
-# says of the archive, and its installation; the programs on their samples; the edits of the definitions that demand 3 must not survive; and
-# whether docs/FIGURES.md tells how many inputs these were.
+# commands of the pages, which write the library that further tests link; a recovery's time by the length of the record; the simulator's
+# own; the hand-written cases of runs, of recoveries and of whole readings on simulator and library; the tables of docs/REFERENCE.md; library
+# against simulator; the C examples; what the header says of the archive, and its installation; the programs on their samples; the edits of
+# the definitions that two theorems must not survive; and whether docs/FIGURES.md tells how many inputs these were.
 set -euo pipefail
 cd "$(dirname "${BASH_SOURCE[0]}")/.."
 
 rt check
 bash tests/first_hour.sh
 bash tests/pages.sh
+# The pages' commands built it.
+target/bench in-place
 rm -f target/tried
 library=(-L target/staticlib -l static=giruve)
 rustc --test --edition 2021 tests/simulator_tests.rs -o target/simulator_tests

@@ -17,6 +17,8 @@ mod demand;
 #[allow(dead_code)]
 #[path = "differential/generate.rs"]
 mod generate;
+#[path = "differential/in_place.rs"]
+mod in_place;
 #[allow(dead_code)]
 #[path = "differential/lendings/mod.rs"]
 mod lendings;

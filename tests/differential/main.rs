@@ -13,6 +13,7 @@ mod damage;
 mod demand;
 mod exhaustive;
 mod generate;
+mod in_place;
 mod lendings;
 mod library;
 mod limits;
@@ -73,6 +74,10 @@ fn main() -> ExitCode {
         ("runs among these", tally.runs()),
         ("runs with multitrack commands", tally.multitrack_runs()),
         ("recoveries among these", tally.recoveries()),
+        (
+            "recoveries that changed bytes of storage, three at most",
+            tally.recoveries_changing(),
+        ),
         ("readings among these", tally.readings()),
         ("readings that began", tally.begun.all),
         ("of them with two recoveries or more", tally.begun.of_two),

@@ -177,6 +177,14 @@ impl Tally {
         self.calls(RECOVER)
     }
 
+    pub fn recoveries_changing(&self) -> u64 {
+        let changing = self.recovery_marks.iter().filter(|(mark, _)| match mark {
+            RecoveryMark::Changed(_, number) => *number > 0,
+            _ => false,
+        });
+        changing.map(|(_, times)| times).sum()
+    }
+
     /// Readings compared.
     pub fn readings(&self) -> u64 {
         self.calls(READING)

@@ -1,6 +1,6 @@
 //! Whether edits were refused because a fact fails.
-//!     refusals edits ROOT          the logs that `rt must-fail` left of every must-fail edit
-//!     refusals theorem ROOT LOG    a log of `rt check demand_three`: a law under `demand-three` must fail
+//!     refusals edits ROOT               the logs that `rt must-fail` left of every must-fail edit
+//!     refusals theorem ROOT FILE LOG    a log of `rt check`: a law under the theorem of this file must fail
 //! An edit that is not refused so is told in a line, and the exit status is 1.
 
 mod log;
@@ -8,8 +8,6 @@ mod reach;
 
 use std::path::{Path, PathBuf};
 use std::{env, fs, io, process};
-
-const THEOREM: &str = "crates/demand_three/proofs/DemandThree.antt";
 
 fn entries(folder: &Path) -> io::Result<Vec<PathBuf>> {
     let mut paths = fs::read_dir(folder)?
@@ -45,15 +43,15 @@ fn edits(root: &Path) -> io::Result<(Vec<String>, usize)> {
     Ok((wrong, count))
 }
 
-/// The file under `root` in which a law that `demand-three` rests on fails.
-fn theorem(root: &Path, log: &Path) -> Result<PathBuf, String> {
+/// The file under `root` in which a law fails that the theorem of another file rests on.
+fn theorem(root: &Path, of: &Path, log: &Path) -> Result<PathBuf, String> {
     let bytes = fs::read(log).map_err(|_| "there is no log of it".to_string())?;
     let text = String::from_utf8_lossy(&bytes);
     let file = log::by_fact(&text)?.ok_or("no law fails")?;
     let file = Path::new(file).strip_prefix(root).map_err(|_| format!("{file} is none of this repository"))?;
-    match reach::reached(root, Path::new(THEOREM)).contains(file) {
+    match reach::reached(root, of).contains(file) {
         true => Ok(file.to_path_buf()),
-        false => Err(format!("{} fails, on which `demand-three` does not rest", file.display())),
+        false => Err(format!("{} fails, on which {} does not rest", file.display(), of.display())),
     }
 }
 
@@ -65,7 +63,7 @@ fn main() {
             println!("must-fail: {} of {count} edits are refused by a fact", count - wrong.len());
             wrong.is_empty() && count > 0
         }),
-        ["theorem", root, log] => Ok(match theorem(Path::new(root), Path::new(log)) {
+        ["theorem", root, of, log] => Ok(match theorem(Path::new(root), Path::new(of), Path::new(log)) {
             Ok(file) => {
                 println!("refused in {}", file.display());
                 true
@@ -75,7 +73,7 @@ fn main() {
                 false
             }
         }),
-        _ => Err(io::Error::new(io::ErrorKind::InvalidInput, "edits ROOT, or theorem ROOT LOG")),
+        _ => Err(io::Error::new(io::ErrorKind::InvalidInput, "edits ROOT, or theorem ROOT FILE LOG")),
     };
     match refused {
         Ok(true) => {}

@@ -20,6 +20,7 @@ mod picture;
 mod points;
 mod rt;
 mod shape;
+mod storage;
 mod tokens;
 #[allow(dead_code)]
 #[path = "../pages/unrun.rs"]
@@ -34,7 +35,7 @@ use std::process::ExitCode;
 
 type Check = fn(&Repository) -> Vec<Place>;
 
-const CHECKS: [(&str, Check); 13] = [
+const CHECKS: [(&str, Check); 14] = [
     ("layers", layers::check),
     ("picture", picture::check),
     ("imports", imports::check),
@@ -48,6 +49,7 @@ const CHECKS: [(&str, Check); 13] = [
     ("paths", paths::check),
     ("commands", commands::check),
     ("figures", figures::check),
+    ("storage", storage::check),
 ];
 
 fn main() -> ExitCode {

@@ -8,9 +8,8 @@ use mathlib.Core.Path.{_≡_, refl, ap, sym, _∙_}
 use mathlib.Core.Bool.{true, false, _&&_}
 use mathlib.Core.Option.{Option, none, some}
 use mathlib.Core.List.{List, [], _∷_, _++_}
-use lib.Bits.{xor-zero-l, xor-comm}
 use lib.Dec.{eqb, ltb, leb}
-use lib.ListN.{length, getD, set, take, replicate}
+use lib.ListN.{length, take, replicate}
 use borrow.Author.Tests.{ne-eqb, eqb-false, ltb-true, ltb-false, le-leb, lt-leb}
 use Rattle.base.specs.Choice.{pick}
 use Rattle.base.proofs.Choice.{split, pick-true, pick-false, and-second}
@@ -20,6 +19,7 @@ use Rattle.channel.specs.Walk.{placeUnder}
 use Rattle.channel.proofs.Stretch.{placesUnder, length-placesUnder}
 use Rattle.drive.specs.Step.{spread}
 use Rattle.recovery.specs.Correct.{mend, samePlace, overwritten, corrected}
+use Rattle.recovery.proofs.Restored.{mend-none}
 use Rattle.correction.specs.declared.Stayed.the-variants.{At, Nowhere}
 use Rattle.correction.specs.Retraced.{finalAt, stayedOf, placeOf, threeStayedOf, overwrites, unlessOverwritten, passed, allPassed, mended}
 
@@ -181,17 +181,6 @@ unfolding allPassed
 all-pass ps c n k = λ i. record { first = passes ps c n k i; second = passes ps c n (k + 1) i; third = passes ps c n (k + 2) i }
 
 -- ---- the correction
-
--- a pattern byte 0 changes nothing
-set-same : (st : List ℕ) (a : ℕ) → set st a (getD st a 0) ≡ st
-set-same [] a = refl
-set-same (b ∷ st) zero = refl
-set-same (b ∷ st) (suc a) = ap (λ (s : List ℕ). b ∷ s) (set-same st a)
-
-mend-none : (q : Option ℕ) (st : List ℕ) → mend q 0 st ≡ st
-unfolding mend
-mend-none none st = refl
-mend-none (some a) st = ap (set st a) (xor-comm (getD st a 0) 0 ∙ xor-zero-l (getD st a 0)) ∙ set-same st a
 
 corrected-none : (ps : List (Option ℕ)) (m : ℕ) (st : List ℕ) → corrected ps (replicate m 0) st ≡ st
 unfolding corrected

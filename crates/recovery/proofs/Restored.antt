@@ -2,6 +2,8 @@
 --   length-spread      a pattern spread over n bytes is n bytes
 --   length-xored       bytes stay as many with others exclusive-ored into them
 --   length-corrected   the correction keeps storage's length
+--   not-here, not-later    a place that no later byte goes to, of the next byte and of those behind it
+--   mend-none          0 exclusive-ored into a byte
 --   restored           what arrived with a pattern in it, corrected by that pattern, is what was read
 use Prim.Native.Nat.{ℕ, suc, _≤_}
 use native.Mathlib.Omega.{arith}
@@ -10,10 +12,10 @@ use mathlib.Core.Logic.{_≢_}
 use mathlib.Core.Bool.{Bool, true, false}
 use mathlib.Core.Option.{Option, none, some}
 use mathlib.Core.List.{List, [], _∷_, _++_}
-use lib.Bits.{bitXor}
+use lib.Bits.{bitXor, xor-zero-r}
 use lib.Dec.{ltb}
 use lib.ListN.{length, getD, set, replicate, length-append, length-replicate, length-set}
-use lib.Seq.{length-take-le, set-set, set-comm, set-out, getD-set-same, getD-set-other}
+use lib.Seq.{length-take-le, set-getD, set-set, set-comm, set-out, getD-set-same, getD-set-other}
 use borrow.Author.Tests.{eqb-true, eqb-false, ltb-true, ltb-false}
 use Rattle.base.specs.Choice.{pick}
 use Rattle.base.proofs.Choice.{pick-true, pick-false, both}
@@ -60,7 +62,7 @@ same-place (some a) none h = cc
 same-place (some a) (some b) h = ap some (eqb-true a b h)
 
 -- a place that no later byte goes to is neither the next one nor later overwritten
-not-here : (p q : Option ℕ) (ps : List (Option ℕ)) → overwritten p (q ∷ ps) ≡ false → samePlace p q ≡ false
+pub not-here : (p q : Option ℕ) (ps : List (Option ℕ)) → overwritten p (q ∷ ps) ≡ false → samePlace p q ≡ false
 unfolding overwritten pick
 not-here p q ps h = by (samePlace p q) refl
   where
@@ -68,7 +70,7 @@ not-here p q ps h = by (samePlace p q) refl
     by true e = e ∙ (rw e at h)
     by false e = e
 
-not-later : (p q : Option ℕ) (ps : List (Option ℕ)) → overwritten p (q ∷ ps) ≡ false → overwritten p ps ≡ false
+pub not-later : (p q : Option ℕ) (ps : List (Option ℕ)) → overwritten p (q ∷ ps) ≡ false → overwritten p ps ≡ false
 unfolding overwritten
 not-later p q ps h = sym (pick-false true (overwritten p ps) (not-here p q ps h)) ∙ h
 
@@ -105,6 +107,11 @@ mend-put (some a) b x st = by (ltb a (length st)) refl
     by true e =
         rw (getD-set-same st a (bitXor b x) 0 (ltb-true a (length st) e), xor-back b x) (set-set st a (bitXor b x) b)
     by false e = let out : length st ≤ a = ltb-false a (length st) e in simp set-out
+
+pub mend-none : (q : Option ℕ) (st : List ℕ) → mend q 0 st ≡ st
+unfolding mend
+mend-none none st = refl
+mend-none (some a) st = ap (set st a) (xor-zero-r (getD st a 0)) ∙ set-getD st a 0
 
 -- ---- the later bytes of a read
 

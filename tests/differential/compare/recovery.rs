@@ -2,7 +2,8 @@
 
 use super::{Comparison, Disagreement, Left, Sides};
 use crate::arena::Arena;
-use crate::library::{self, RecoveryAreas, RestartAreas};
+use crate::in_place;
+use crate::library::{self, RecoveryAreas, RestartAreas, ACTION_5, ACTION_5A};
 use crate::random::Random;
 use crate::recovery_marks::{marks_of, RecoveryMark};
 use crate::reports::GeneratedRecovery;
@@ -21,6 +22,8 @@ const NAMES: [&str; 7] = [
     "restart arguments",
     "answer",
 ];
+const STORAGE: usize = 3;
+const ANSWER: usize = 6;
 
 type RecoveryArena = Arena<7>;
 type RecoveryLeft = Left<7>;
@@ -40,8 +43,12 @@ impl Comparison {
             by_simulator: self.recovered_by_simulator(recovery, lent.clone()),
             lent,
         };
-        if !sides.agree() {
-            return Err(sides.told(RECOVER, kind, "disagreement", self.tally.compared));
+        let wrong = match sides.agree() {
+            true => in_place::wrong(changed(&sides), corrects(&sides.by_library)),
+            false => Some("disagreement"),
+        };
+        if let Some(wrong) = wrong {
+            return Err(sides.told(RECOVER, kind, wrong, self.tally.compared));
         }
         self.tally.count(RECOVER, kind, sides.by_simulator.number);
         Ok(())
@@ -69,8 +76,8 @@ impl Comparison {
             restart_arguments,
         };
         let recovered = recover(lent, areas, LAST_CYLINDER);
-        let storage_changed = storage != recovery.storage;
-        let marks = marks_of(recovery, &recovered, storage_changed);
+        let changed = in_place::changed(&recovery.storage, storage);
+        let marks = marks_of(recovery, &recovered, changed);
         self.tally.count_recovery_marks(marks);
         let number = match recovered {
             Ok(recovered) => {
@@ -81,6 +88,20 @@ impl Comparison {
         };
         Left { number, arena }
     }
+}
+
+/// How many bytes of storage the library changed.
+fn changed(sides: &Sides<7>) -> usize {
+    let [before, after] =
+        [&sides.lent, &sides.by_library.arena].map(|arena| arena.areas()[STORAGE]);
+    in_place::changed(before, after)
+}
+
+/// Whether the answer is an action 5 that corrects.
+fn corrects(left: &RecoveryLeft) -> bool {
+    let action = left.arena.areas()[ANSWER].get(1);
+    left.number == library::ANSWERED
+        && action.is_some_and(|action| [ACTION_5, ACTION_5A].contains(action))
 }
 
 fn lend(random: &mut Random, recovery: &GeneratedRecovery) -> RecoveryArena {

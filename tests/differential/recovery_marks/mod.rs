@@ -2,6 +2,7 @@
 
 mod seen;
 
+use crate::in_place::MOST_CHANGED;
 use crate::reports::ANSWER_AREAS;
 use crate::simulator::areas::Area;
 use crate::simulator::channel::ProgramCheck;
@@ -34,6 +35,8 @@ pub enum RecoveryMark {
     RefusedFor(u8, Option<Action>),
     /// What became of the pattern byte of this number.
     Pattern(usize, PatternKind),
+    /// How many bytes of storage a correcting answer changed.
+    Changed(AnswerKind, usize),
     Met(RecoveryEvent),
     /// Length of an area to answer in that is not as it must be.
     AnswerArea(usize),
@@ -86,7 +89,6 @@ rules! {
         DataChainedRound,
         // Pattern bytes went to places that are not adjacent.
         PatternApart,
-        StorageChanged,
         // The error begins with the read.
         ErrorAtTheFront,
         CountLeft,
@@ -132,6 +134,10 @@ impl RecoveryMark {
         // An error displacement is not 0.
         let patterns =
             patterns.filter(|&mark| mark != RecoveryMark::Pattern(0, PatternKind::PastTheDataArea));
+        let changes = CORRECTING.iter().flat_map(|&kind| {
+            let numbers = 0..=MOST_CHANGED;
+            numbers.map(move |number| RecoveryMark::Changed(kind, number))
+        });
         (0..TABLE.len())
             .map(RecoveryMark::Row)
             .chain(answered)
@@ -141,11 +147,20 @@ impl RecoveryMark {
             .chain(refusals().into_iter().map(RecoveryMark::Refused))
             .chain(refused_for)
             .chain(patterns)
+            .chain(changes)
             .chain(RecoveryEvent::ALL.iter().copied().map(RecoveryMark::Met))
             .chain(ANSWER_AREAS.map(RecoveryMark::AnswerArea))
             .collect()
     }
 }
+
+/// The answers with a correction.
+const CORRECTING: [AnswerKind; 4] = [
+    AnswerKind::CorrectedOnly,
+    AnswerKind::Finished,
+    AnswerKind::Restart(RestartAction::Five),
+    AnswerKind::Restart(RestartAction::FiveA),
+];
 
 /// Every answer that an action has.
 fn answers_of(action: Action) -> Vec<AnswerKind> {
@@ -241,6 +256,7 @@ impl fmt::Display for RecoveryMark {
             }
             RecoveryMark::RefusedFor(number, None) => write!(out, "refused {number} for no row"),
             RecoveryMark::Pattern(at, kind) => write!(out, "pattern byte {at}: {kind:?}"),
+            RecoveryMark::Changed(kind, number) => write!(out, "{kind:?}, {number} bytes changed"),
             RecoveryMark::Met(event) => write!(out, "{event:?}"),
             RecoveryMark::AnswerArea(length) => write!(out, "answer area of {length} bytes"),
         }

@@ -16,19 +16,22 @@ use crate::simulator::table::{row_of, Action, TABLE};
 use crate::simulator::{Refusal, LAST_CYLINDER};
 use std::collections::BTreeSet;
 
-/// The marks of a recovery, as it was lent, that the simulator has answered or refused.
+/// The marks of a recovery, as it was lent, that the simulator has answered or refused, with so many bytes
+/// of storage changed.
 pub fn marks_of(
     recovery: &GeneratedRecovery,
     recovered: &Result<Recovered, Refusal>,
-    storage_changed: bool,
+    changed: usize,
 ) -> BTreeSet<RecoveryMark> {
     let mut marks = Marks::default();
-    marks.meet_if(storage_changed, RecoveryEvent::StorageChanged);
     match recovered {
         Err(refusal) => marks.refused(recovery, *refusal),
         Ok(recovered) => {
             let report = Report::decode(&recovery.report).expect("question 4 was answered yes");
             marks.answered(recovery, &report, recovered);
+            if recovered.correction.is_some() {
+                marks.see(RecoveryMark::Changed(kind_of(&recovered.answer), changed));
+            }
         }
     }
     marks.seen
@@ -195,6 +198,7 @@ fn is_apart(fates: &[Fate; 3]) -> bool {
 #[cfg(test)]
 mod tests {
     use super::*;
+    use crate::in_place::changed;
     use crate::simulator::channel::ProgramCheck;
     use crate::simulator::encode::{self, ccw};
     use crate::simulator::report::ReportRule;
@@ -225,7 +229,8 @@ mod tests {
     fn marks(recovery: &GeneratedRecovery) -> BTreeSet<RecoveryMark> {
         let mut left = recovery.clone();
         let recovered = left.simulated();
-        let marks = marks_of(recovery, &recovered, left.storage != recovery.storage);
+        let changed = changed(&recovery.storage, &left.storage);
+        let marks = marks_of(recovery, &recovered, changed);
         assert!(marks.iter().all(|mark| RecoveryMark::all().contains(mark)));
         marks
     }
@@ -242,7 +247,7 @@ mod tests {
             RecoveryMark::Pattern(0, PatternKind::Stored),
             RecoveryMark::Pattern(1, PatternKind::Stored),
             RecoveryMark::Pattern(2, PatternKind::Stored),
-            RecoveryMark::Met(RecoveryEvent::StorageChanged),
+            RecoveryMark::Changed(AnswerKind::Restart(five_a), 1),
         ];
         assert_eq!(marks(&sample_recovery().0), BTreeSet::from(expected));
     }
@@ -289,7 +294,6 @@ mod tests {
             RecoveryEvent::DataChained,
             RecoveryEvent::DataChainedByTic,
             RecoveryEvent::PatternApart,
-            RecoveryEvent::StorageChanged,
             RecoveryEvent::ErrorAtTheFront,
             RecoveryEvent::CountLeft,
             RecoveryEvent::FinishedWithoutCc,
