@@ -1,5 +1,5 @@
 //! The proved library against the simulator, in the same process: checking images, running chains,
-//! recovering, whole readings. Prints times and ratios.
+//! recovering, running on from protected steps, whole readings. Prints times and ratios.
 //!     bench             all of it
 //!     bench in-place    what a recovery takes by the length of the record, and no more
 //! Either fails if the longest record takes a recovery more than twice the time of a short one.
@@ -11,6 +11,7 @@ mod simulator;
 
 mod images;
 mod in_place;
+mod protected_steps;
 mod readings;
 mod recoveries;
 mod runs;
@@ -26,6 +27,7 @@ fn main() -> ExitCode {
             images::print();
             runs::print();
             recoveries::print();
+            protected_steps::print();
             readings::print();
         }
         ["in-place"] => {}

@@ -40,9 +40,9 @@ extern "C" {
  * gone, or an answer is another one; a program must be looked at. Minor: names or calls were added; a program need only be compiled. Patch:
  * neither.
  */
-#define GIRUVE_VERSION "2.0.0"
+#define GIRUVE_VERSION "3.0.0"
 enum {
-    GIRUVE_VERSION_MAJOR = 2,
+    GIRUVE_VERSION_MAJOR = 3,
     GIRUVE_VERSION_MINOR = 0,
     GIRUVE_VERSION_PATCH = 0,
 };
@@ -157,12 +157,13 @@ enum {
  * others may be.
  */
 enum {
-    GIRUVE_TAG_SENSE = 0x10,          /* GIRUVE_SENSE */
+    GIRUVE_TAG_SENSE = 0x10,          /* GIRUVE_SENSE: as the drive gives them. Bits 3 to 7 of byte 6, the head reached, are for action 10A */
     GIRUVE_TAG_CSW = 0x11,            /* GIRUVE_CSW: its first byte 0, its address counted from the front of the chain */
     GIRUVE_TAG_FIRST_CCW = 0x12,      /* 2: address of the first CCW of the read that was cut, and of its data chain; 0 where no read was cut */
     GIRUVE_TAG_MASK = 0x13,           /* 1: the file mask that the chain had set, with bits 2, 5 and 6 off; absent where it had set none */
     GIRUVE_TAG_SEEK_ARGUMENT = 0x14,  /* 6: 0, 0, cylinder 2, head 2, for actions 8, 10 and 10A: that of the seek that a mask forbade, else of the last
-                                         seek made, by a restart too. It cannot be checked: a wrong one leads to a wrong track */
+                                         seek made, by a restart too. It cannot be checked: a wrong one leads to a wrong track. 8 and 10A take
+                                         its cylinder alone; its head must still lie on the pack */
     GIRUVE_TAG_TRIES = 0x15,          /* 1: how often it was tried again for this error; absent stands for 0 */
 };
 
@@ -205,7 +206,7 @@ enum {
     GIRUVE_ACTION_5A = 0x15,   /* the same, with a read count (12, or 92 before an 86 or 8E) before the restart's last TIC */
     GIRUVE_ACTION_8 = 0x08,    /* a restart at the first track of the next cylinder, with the CCW that was interrupted */
     GIRUVE_ACTION_10 = 0x0A,   /* a restart that makes the user's seek, and goes on behind it */
-    GIRUVE_ACTION_10A = 0x1A,  /* a restart at the next track, with the CCW that was interrupted */
+    GIRUVE_ACTION_10A = 0x1A,  /* a restart at the track behind the head reached, with the CCW that was interrupted */
 };
 
 /* Places in the answer of a reading. */
@@ -259,7 +260,8 @@ uint8_t giruve_recover(const uint8_t *chain, size_t chain_length, const uint8_t 
  * The drive takes these commands, hexadecimal, and rejects all others: 03 no-op, 07 seek, 1F set file mask, 23 set sector, 31 search ID
  * equal, 06 read data, 0E read key and data, 12 read count, 1E read count, key and data, 1A read home address; and B1, 86, 8E, 92 and 9E, the
  * multitrack forms of 31, 06, 0E, 12 and 1E, which step to the next head of the cylinder where these would come round to the front of the
- * track. A step past head 18 ends the run with GIRUVE_UNIT_CHECK, and end of cylinder in the sense: 20 in byte 1.
+ * track. A step past head 18 ends the run with GIRUVE_UNIT_CHECK, and end of cylinder in the sense: 20 in byte 1. So does a step that the file
+ * mask forbids, with file protected in the sense: 04 in byte 1, and in byte 6 the head on which the drive stands.
  */
 uint8_t giruve_run(const uint8_t *chain, size_t chain_length, const uint8_t *arguments, size_t arguments_length,
                    uint8_t *storage, size_t storage_length, const uint8_t *image, size_t image_length,
@@ -267,6 +269,9 @@ uint8_t giruve_run(const uint8_t *chain, size_t chain_length, const uint8_t *arg
 
 /*
  * Runs a restart program, and the chain from the CCW on to which it leads, with GIRUVE_RESTART_LIMIT. Asks, returns and writes the same.
+ *
+ * The address in the CSW may lie in the restart program. Where the image lacks the track that a restart by action 8, 10 or 10A seeks, it is that of
+ * its read home address, 1A, which finds no record: 08 in byte 1 of the sense.
  */
 uint8_t giruve_run_restart(const uint8_t *chain, size_t chain_length, const uint8_t *arguments, size_t arguments_length,
                            const uint8_t *program, size_t program_length,

@@ -13,6 +13,9 @@ bash tests/pages.sh
 # The pages' commands built it.
 target/bench in-place
 rm -f target/tried
+# It works in copies, on one processor or two; most tests below take one.
+bash tests/theorem.sh > target/theorem 2>&1 &
+theorem=$!
 library=(-L target/staticlib -l static=giruve)
 rustc --test --edition 2021 tests/simulator_tests.rs -o target/simulator_tests
 target/simulator_tests --quiet
@@ -35,5 +38,9 @@ bash tests/archive.sh
 bash tests/install.sh
 bash tests/reading_program.sh | tee -a target/tried
 bash tests/explain_program.sh | tee -a target/tried
-bash tests/theorem.sh | tee -a target/tried
+if ! wait "$theorem"; then
+    cat target/theorem
+    exit 1
+fi
+tee -a target/tried < target/theorem
 bash tests/inputs.sh

@@ -25,6 +25,9 @@ mod lendings;
 #[allow(dead_code)]
 #[path = "differential/marks.rs"]
 mod marks;
+#[allow(dead_code)]
+#[path = "differential/protected_steps.rs"]
+mod protected_steps;
 #[path = "differential/random.rs"]
 mod random;
 #[allow(dead_code, unused_imports)]

@@ -1,13 +1,13 @@
 #!/usr/bin/env bash
-# Edits of the definitions that make a theorem false, in a folder named by the theorem's crate: of demand 3, and of which bytes of storage
-# recovery changes. Each is applied in a copy of the crates; then a law that the theorem rests on, or the theorem itself, must not be proved,
-# and the first error must say so (tests/refusals). The test of this test: the edits of tests/theorem/bad are none, and each must be
-# reported. An edit: `# why`, `file: PATH`, then pairs of `old: TEXT` and `new: TEXT`.
+# Edits of the definitions that make a theorem false, in a folder named by the theorem's crate: of demand 3, of which bytes of storage recovery
+# changes, and of the head that 10A goes by. Each is applied in a copy of the crates; then a law that the theorem rests on, or the theorem
+# itself, must not be proved, and the first error must say so (tests/refusals). The test of this test: the edits of tests/theorem/bad are none,
+# and each must be reported. An edit: `# why`, `file: PATH`, then pairs of `old: TEXT` and `new: TEXT`.
 set -euo pipefail
 cd "$(dirname "${BASH_SOURCE[0]}")/.."
 
-declare -A theorems=([demand_three]=DemandThree [recovery_storage]=Storage)
-declare -A promises=([demand_three]="demand 3" [recovery_storage]="the promise about storage")
+declare -A theorems=([demand_three]=DemandThree [recovery_storage]=Storage [head_reached]=Head)
+declare -A promises=([demand_three]="demand 3" [recovery_storage]="the promise about storage" [head_reached]="the promise about the head reached")
 workers=2
 
 rt check "${!theorems[@]}" > /dev/null
@@ -50,7 +50,7 @@ refused() {
     return $status
 }
 
-edits=(tests/theorem/{bad,demand_three,recovery_storage}/*.edit)
+edits=(tests/theorem/{bad,demand_three,recovery_storage,head_reached}/*.edit)
 
 # The theorem that an edit is of; those that are none are tried on demand 3.
 crate_of() {
@@ -62,8 +62,10 @@ crate_of() {
 # worker NUMBER: every edit whose turn it is, in a copy of its own.
 worker() {
     local copy=$work/copy$1 at status
-    mkdir "$copy"
-    cp -r crates crates.txt target "$copy"
+    mkdir -p "$copy/target"
+    cp -r crates crates.txt "$copy"
+    # What `rt check` has proved; other tests may write beside it.
+    cp -r target/rlib target/stamp target/log "$copy/target"
     for ((at = $1; at < ${#edits[@]}; at += workers)); do
         status=0
         refused "$copy" "$(crate_of "${edits[at]}")" "${edits[at]}" > "$work/said$at" || status=$?
@@ -101,6 +103,6 @@ for at in "${!edits[@]}"; do
             ;;
     esac
 done
-for crate in demand_three recovery_storage; do
+for crate in demand_three recovery_storage head_reached; do
     echo "tried: edits of the definitions that make ${promises[$crate]} false: ${count[$crate]}"
 done

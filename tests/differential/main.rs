@@ -18,6 +18,7 @@ mod lendings;
 mod library;
 mod limits;
 mod marks;
+mod protected_steps;
 mod random;
 mod reading_marks;
 mod readings;
@@ -29,6 +30,7 @@ mod sizes;
 mod step_marks;
 mod tally;
 
+use chains::steps;
 use compare::{Comparison, Disagreement};
 use generate::{decoded, written, SHAPES};
 use random::Random;
@@ -41,6 +43,9 @@ const SEED: u64 = 33_300_001;
 
 /// Every kind of damage is done in its turn, at least 300 times.
 const ROUNDS: usize = 15_000;
+
+/// Generated chains under a mask that forbids steps.
+const FORBIDDEN: usize = 40_000;
 
 fn main() -> ExitCode {
     let seed = match std::env::args().nth(1) {
@@ -91,6 +96,14 @@ fn main() -> ExitCode {
             "of those with two recoveries or more",
             tally.multitrack.of_two,
         ),
+        (
+            "chains under a mask that forbids steps, each step answered by 10A and run on",
+            tally.protected_steps.all(),
+        ),
+        (
+            "of them with two such steps or more",
+            tally.protected_steps.of_two(),
+        ),
     ] {
         println!("tried: {what}: {number}");
     }
@@ -109,7 +122,24 @@ fn compare_all(comparison: &mut Comparison, random: &mut Random) -> Result<(), D
     limits::compare_all(comparison, random)?;
     runs::compare_all(comparison, random)?;
     recoveries::compare_all(comparison, random)?;
-    readings::compare_all(comparison, random)
+    readings::compare_all(comparison, random)?;
+    forbidden_steps(comparison, random)
+}
+
+/// Every sequence of four steps over three heads of a cylinder, the last ones and others; generated
+/// chains.
+fn forbidden_steps(comparison: &mut Comparison, random: &mut Random) -> Result<(), Disagreement> {
+    for few in steps::every(4, &steps::FEW_OVER_HEADS) {
+        for first in [1, 16] {
+            let chain = steps::forbidden(first, &[1, 0, 1], &few);
+            comparison.protected_steps(random, &chain)?;
+        }
+    }
+    for _ in 0..FORBIDDEN {
+        let chain = chains::forbidden_steps(random);
+        comparison.protected_steps(random, &chain)?;
+    }
+    Ok(())
 }
 
 fn well_formed(

@@ -4,7 +4,7 @@ use crate::chains::multitrack_commands;
 use crate::simulator::channel::{Ccw, ProgramCheck};
 use crate::simulator::drive::{
     is_multitrack, Done, Drive, NotFoundRule, ProtectedRule, UnitCheck, MASK_SEEK_INHIBITED,
-    READ_DATA_MULTITRACK, READ_KEY_DATA_MULTITRACK,
+    READ_DATA_MULTITRACK, READ_KEY_DATA_MULTITRACK, SEEK,
 };
 use crate::simulator::pack::{TrackAddress, LAST_HEAD};
 use crate::simulator::run::{End, Watch};
@@ -17,6 +17,8 @@ pub enum StepMark {
     SteppedUnder(u8),
     /// A program check by the data range of this multitrack command.
     DataRange(u8),
+    /// A protected step on a head so many above the one last sought, `FAR_ABOVE` for more.
+    ProtectedAbove(u16),
     Met(StepEvent),
 }
 
@@ -46,11 +48,17 @@ rules! {
         // A head behind it is in the image.
         HoleBetweenHeads,
         StepToNoTrackProtected,
+        StepProtectedOnHead0,
+        StepProtectedOnHeadAbove0,
+        // Its sense tells no head.
+        SeekProtectedOnHeadAbove0,
         // The command's step would have ended the run by another check.
         RejectBeforeStep,
         DataRangeBeforeStep,
     }
 }
+
+const FAR_ABOVE: u16 = 3;
 
 /// What takes the record whose count area was just passed.
 const TAKING_PASSED: [u8; 2] = [READ_DATA_MULTITRACK, READ_KEY_DATA_MULTITRACK];
@@ -59,6 +67,7 @@ impl StepMark {
     pub fn all() -> Vec<StepMark> {
         ([0x00, 0x08, 0x10].map(StepMark::SteppedUnder).into_iter())
             .chain(multitrack_commands().map(StepMark::DataRange))
+            .chain((0..=FAR_ABOVE).map(StepMark::ProtectedAbove))
             .chain(StepEvent::ALL.iter().copied().map(StepMark::Met))
             .collect()
     }
@@ -69,6 +78,10 @@ impl fmt::Display for StepMark {
         match self {
             StepMark::SteppedUnder(mask) => write!(out, "step under mask bits {mask:02X}"),
             StepMark::DataRange(command) => write!(out, "data range of {command:02X}"),
+            StepMark::ProtectedAbove(heads) => {
+                let more = if *heads == FAR_ABOVE { " or more" } else { "" };
+                write!(out, "step protected {heads}{more} above the seek")
+            }
             StepMark::Met(event) => write!(out, "{event:?}"),
         }
     }
@@ -91,6 +104,8 @@ pub struct StepMarks {
     begun: Option<Begun>,
     /// Whether searches in vain passed the index, stepped, and go on.
     passed_before_step: bool,
+    /// The head last sought, or the one that a run starts at.
+    sought: u16,
 }
 
 impl StepMarks {
@@ -156,10 +171,25 @@ impl StepMarks {
                 self.meet_if(is_hole, StepEvent::HoleBetweenHeads);
             }
             UnitCheck::FileProtected(ProtectedRule::Step) => {
+                let above = (head - self.sought).min(FAR_ABOVE);
+                self.seen.insert(StepMark::ProtectedAbove(above));
                 self.meet_if(!has(cylinder, head + 1), StepEvent::StepToNoTrackProtected);
+                self.meet_if(head == 0, StepEvent::StepProtectedOnHead0);
+                self.meet_if(head > 0, StepEvent::StepProtectedOnHeadAbove0);
             }
             UnitCheck::Reject(_) => self.meet_if(begun.step_fails, StepEvent::RejectBeforeStep),
             _ => (),
+        }
+    }
+
+    fn seek(&mut self, done: &Result<Done, UnitCheck>, drive: &Drive) {
+        let head = drive.track().head;
+        match done {
+            Ok(_) => self.sought = head,
+            Err(UnitCheck::FileProtected(_)) => {
+                self.meet_if(head > 0, StepEvent::SeekProtectedOnHeadAbove0);
+            }
+            Err(_) => (),
         }
     }
 
@@ -198,6 +228,7 @@ impl Watch for StepMarks {
     ) {
         let begun = self.begun.take().expect("a command begins with its CCW");
         match done {
+            _ if begun.command == SEEK => self.seek(done, drive),
             _ if !is_multitrack(begun.command) => (),
             Ok(done) => self.done(&begun, argument, done, drive),
             Err(check) => self.failed(&begun, *check, drive),
@@ -227,14 +258,15 @@ mod tests {
     const ARGUMENTS: [u8; 17] = [0x18, 0, 0, 0, 1, 0, 0, 0, 0, 0, 0, 18, 0, 0, 0, 0, 9];
     const MASK: [u8; 8] = ccw(0x1F, 0, 0x40, 1);
     const R0: [u8; 8] = ccw(0xB1, 1, 0x40, 5);
-    const SEEK: [u8; 8] = ccw(0x07, 6, 0x40, 6);
+    const TO_18: [u8; 8] = ccw(0x07, 6, 0x40, 6);
     const IN_VAIN: [u8; 8] = ccw(0x31, 12, 0x40, 5);
     const ON_IN_VAIN: [u8; 8] = ccw(0xB1, 12, 0x40, 5);
     const COUNT: [u8; 8] = ccw(0x12, 0, 0x40, 8);
+    const ON_COUNT: [u8; 8] = ccw(0x92, 0, 0x40, 8);
     const READ: [u8; 8] = ccw(0x86, 0, 0x40, 4);
 
-    /// What is met on tracks from 000/00 on with R0 and so many records each, or with nothing.
-    fn met(tracks: &[Option<u8>], ccws: &[[u8; 8]]) -> Vec<StepEvent> {
+    /// What is seen on tracks from 000/00 on with R0 and so many records each, or with nothing.
+    fn seen(tracks: &[Option<u8>], ccws: &[[u8; 8]]) -> BTreeSet<StepMark> {
         let mut image = Vec::new();
         for (place, records) in tracks.iter().enumerate() {
             let track = track_at(place);
@@ -255,6 +287,11 @@ mod tests {
         let mut marks = StepMarks::default();
         let outcome = run.watched(&mut marks).expect("the run is not refused");
         marks.see_end(outcome.end);
+        marks.seen
+    }
+
+    fn met(tracks: &[Option<u8>], ccws: &[[u8; 8]]) -> Vec<StepEvent> {
+        let marks = seen(tracks, ccws);
         let events = marks.into_iter().filter_map(|mark| match mark {
             StepMark::Met(event) => Some(event),
             _ => None,
@@ -292,7 +329,7 @@ mod tests {
             ),
             (
                 last,
-                &[SEEK, MASK, COUNT, READ, READ],
+                &[TO_18, MASK, COUNT, READ, READ],
                 &[
                     LastPassedTaken,
                     EndOfCylinderUnderMask,
@@ -301,7 +338,11 @@ mod tests {
             ),
             (&[Some(0), None, Some(1)], &[READ], &[HoleBetweenHeads]),
             (&[Some(0), Some(0)], &[READ], &[NoTrackBehindSteps]),
-            (&[Some(0)], &[MASK, READ], &[StepToNoTrackProtected]),
+            (
+                &[Some(0)],
+                &[MASK, READ],
+                &[StepToNoTrackProtected, StepProtectedOnHead0],
+            ),
             (&[Some(0); 19], &[READ], &[EndOfCylinderBehindSteps]),
             (
                 &[Some(0)],
@@ -311,6 +352,23 @@ mod tests {
         ];
         for (tracks, ccws, expected) in table {
             assert_eq!(met(tracks, ccws), expected, "{ccws:02X?}");
+        }
+    }
+
+    /// A read steps so many heads, a mask follows, the record is read again: the next read is protected,
+    /// but not behind a search, which goes round to R0.
+    #[test]
+    fn protected_above_the_head_sought() {
+        for (heads, above) in [(0, 0), (1, 1), (2, 2), (3, 3), (17, 3)] {
+            let tracks = [&vec![Some(0); heads][..], &[Some(1)]].concat();
+            let above = StepMark::ProtectedAbove(above);
+            let reads = [ON_COUNT, MASK, ON_COUNT, ON_COUNT];
+            assert!(seen(&tracks, &reads).contains(&above));
+            let searches = [ON_COUNT, MASK, ON_COUNT, IN_VAIN, ON_COUNT];
+            assert!(!seen(&tracks, &searches).contains(&above));
+            let events = met(&tracks, &[ON_COUNT, MASK, TO_18]);
+            let seek = events.contains(&SeekProtectedOnHeadAbove0);
+            assert_eq!(seek, heads > 0);
         }
     }
 

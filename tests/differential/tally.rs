@@ -2,6 +2,7 @@
 
 use crate::library::{LIMIT, STOPPED};
 use crate::marks::{Event, Mark};
+use crate::protected_steps::RunOnTally;
 use crate::reading_marks::ReadingMark;
 use crate::recovery_marks::RecoveryMark;
 use crate::simulator::areas::Area;
@@ -115,6 +116,7 @@ pub struct Tally {
     pub met: Readings,
     /// Of those begun, where a multitrack command was begun.
     pub multitrack: Readings,
+    pub protected_steps: RunOnTally,
 }
 
 impl Tally {
@@ -223,6 +225,8 @@ impl Tally {
             let times = self.readings_with(mark);
             println!("  {:<58}{times:>10}", mark.to_string());
         }
+        println!("chains under a mask that forbids steps");
+        print!("{}", self.protected_steps);
     }
 
     fn readings_with(&self, mark: ReadingMark) -> u64 {
@@ -266,11 +270,16 @@ impl Tally {
             .into_iter()
             .filter(|&mark| self.readings_with(mark) == 0)
             .map(|mark| format!("{} with {mark}", READING.name));
+        let protected_steps = self
+            .protected_steps
+            .never_seen()
+            .map(|mark| format!("protected step, {mark}"));
         answers
             .chain(rules)
             .chain(marks)
             .chain(recovery_marks)
             .chain(reading_marks)
+            .chain(protected_steps)
             .collect()
     }
 
@@ -301,6 +310,10 @@ impl Tally {
             (
                 self.multitrack.have_two_often(),
                 "of these with two recoveries or more",
+            ),
+            (
+                self.protected_steps.are_enough(),
+                "chains under a mask that forbids steps",
             ),
         ]
         .into_iter()

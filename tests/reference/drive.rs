@@ -484,7 +484,9 @@ fn unit_checks(book: &Book) -> Checked {
         );
         let mut expected = vec![0; 24];
         if sense != "none" {
-            expected[..3].copy_from_slice(&book.sense_bits(sense)?);
+            let (bits, byte_6) = sense.split_once(", byte 6 = ").unwrap_or((sense, "00"));
+            expected[..3].copy_from_slice(&book.sense_bits(bits)?);
+            expected[6] = byte(byte_6)?;
         }
         ensure!(ran.sense == expected, "{cause}: sense {:02X?}", ran.sense);
         ensure!(

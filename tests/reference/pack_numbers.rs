@@ -2,6 +2,7 @@
 
 use super::book::Book;
 use super::bytes::{big_endian, bounds, number, Checked};
+use super::questions::changed;
 use crate::library;
 use crate::simulator::held::HeldRecovery;
 
@@ -21,6 +22,7 @@ pub fn check(book: &Book) -> Checked {
         "error displacement of a fault",
         "restart displacement in a report",
         "sector in a report, sense 13",
+        "head reached in a report of 10A, sense 6",
         "sector of a set sector; 255 too",
         "tries",
     ])?;
@@ -81,6 +83,9 @@ pub fn check(book: &Book) -> Checked {
             }
             "sector in a report, sense 13" => {
                 bounds(name, both()?, 9, |n| recovered(book, 4, 3, n))?
+            }
+            "head reached in a report of 10A, sense 6" => {
+                bounds(name, both()?, 9, |n| reached(book, n))?
             }
             "sector of a set sector; 255 too" => {
                 let reject = 1;
@@ -165,6 +170,12 @@ fn recovered(book: &Book, restart: usize, error: usize, sector: usize) -> Result
         ..HeldRecovery::default()
     };
     Ok(book.recover(held)?.number)
+}
+
+/// The worked report as one of 10A, with this head reached.
+fn reached(book: &Book, head: usize) -> Result<u8, String> {
+    let change = format!("sense 0 = 00 04 00; sense 6 = {head:02X}; 14 = 000000000000");
+    Ok(book.recover(changed(book, &change)?)?.number)
 }
 
 /// The worked report with so many tries.

@@ -3,6 +3,7 @@
 use super::book::{split, tagged, Book};
 use super::bytes::{byte, bytes, hex, number, Checked};
 use super::inputs::{worked, worked_reading};
+use super::page::Table;
 use crate::library::{self, RestartAreas, RunAreas};
 use crate::simulator::areas::RunSizes;
 use crate::simulator::cut::CutRule;
@@ -327,6 +328,10 @@ fn nine_of_eight_and_ten(book: &Book) -> Checked {
             "it is not a TIC that a TIC names",
             Next(ProgramCheck::TicToTic),
         ),
+        (
+            "the head reached, sense 6 bits 3 to 7, is 18 or less",
+            Interrupted(HeadAboveLast),
+        ),
     ];
     const HEADING: &str = "Question 9, actions 8, 10, 10A";
     let reports = book.page.table(HEADING, &["action", "change"])?;
@@ -349,18 +354,49 @@ fn nine_of_eight_and_ten(book: &Book) -> Checked {
         table.line
     );
     for ([actions, asked, no], (_, point)) in table.each().zip(points) {
-        let whose = if matches!(point, Next(_) | Interrupted(SeekWithoutCc)) {
-            "10"
-        } else {
-            "8, 10, 10A"
+        let whose = match point {
+            Next(_) | Interrupted(SeekWithoutCc) => "10",
+            Interrupted(HeadAboveLast) => "10A",
+            _ => "8, 10, 10A",
         };
         ensure!(actions == whose, "{asked}: asked for {actions}");
         for action in actions.split(", ") {
-            let base = reports.each().find(|[of, _]| *of == action);
-            let [_, base] = base.ok_or(format!("no report of {action}"))?;
-            let held = changed_on(book, changed(book, base)?, no)?;
+            let held = changed_on(book, report_of(book, reports, action)?, no)?;
             refused_by_nine(book, held, point)
                 .map_err(|failure| format!("{action}, {asked}: {no}: {failure}"))?;
+        }
+    }
+    heads_not_asked(book, reports)
+}
+
+/// The report that a row makes of the worked one.
+fn report_of(book: &Book, reports: &Table, action: &str) -> Result<HeldRecovery, String> {
+    let row = reports.each().find(|[of, _]| *of == action);
+    let [_, change] = row.ok_or(format!("no report of {action}"))?;
+    changed(book, change)
+}
+
+/// What these actions leave unasked of the two heads: the restart is the same.
+fn heads_not_asked(book: &Book, reports: &Table) -> Checked {
+    const SAID: &str =
+        "Not asked: sense 6 in 8 and 10, its bits 0 to 2 in 10A. Of field 14 10A uses the cylinder \
+         alone, though its head is asked.";
+    ensure!(book.page.says(SAID), "the page lacks '{SAID}'");
+    let of_sense_6 = ["sense 6 = 01", "sense 6 = 13", "sense 6 = FF"];
+    let of_ten_a = ["sense 6 = 20", "sense 6 = E0", "14 = 000000000012"];
+    for (action, changes) in [("8", of_sense_6), ("10", of_sense_6), ("10A", of_ten_a)] {
+        let base = report_of(book, reports, action)?;
+        let expected = book.recover(base.clone())?;
+        for change in changes {
+            let recovered = book.recover(changed_on(book, base.clone(), change)?)?;
+            ensure!(
+                recovered.number == 0
+                    && recovered.what == expected.what
+                    && recovered.action == expected.action
+                    && recovered.held.program == expected.held.program
+                    && recovered.held.restart_arguments == expected.held.restart_arguments,
+                "{action}: another answer with {change}"
+            );
         }
     }
     Ok(())

@@ -47,6 +47,7 @@ struct Case {
     /// The command to go on with behind a cut, at 0030.
     next: u8,
     seek_argument: [u8; 6],
+    sense_6: u8,
     mask: Option<u8>,
 }
 
@@ -56,33 +57,39 @@ const SECTOR: u8 = 0x05;
 fn each_action(book: &Book) -> Checked {
     let mut cases = Vec::new();
     for mask in [None, Some(0x00), Some(0xD8)] {
-        let mut add = |action, sense, address, next, cylinder: u8, head: u8| {
+        let mut add = |action, sense, address, next, (head, sense_6)| {
             cases.push(Case {
                 action,
                 sense,
                 address,
                 next,
-                seek_argument: [0, 0, 0, cylinder, 0, head],
+                seek_argument: [0, 0, 0, 4, 0, head],
+                sense_6,
                 mask,
             })
         };
         for next in AFTER_FIVE {
-            add("5", "08 00 40", 0x20, next, 0, 0);
+            add("5", "08 00 40", 0x20, next, (0, 0x5F));
         }
         for next in AFTER_FIVE_A {
-            add("5A", "08 00 40", 0x20, next, 0, 0);
+            add("5A", "08 00 40", 0x20, next, (0, 0x5F));
         }
         for head in [0, 3, 18] {
-            add("8", "00 20 00", 0x20, 0x06, 4, head);
-            add("10", "00 04 00", 0x08, 0x06, 4, head);
-            add("10A", "00 04 00", 0x20, 0x06, 4, head);
+            for sense_6 in [0x00, 0x02, 0x13, 0xFF] {
+                add("8", "00 20 00", 0x20, 0x06, (head, sense_6));
+                add("10", "00 04 00", 0x08, 0x06, (head, sense_6));
+            }
+            // Heads 0, 2, 3, 17 and 18, with bits 0 to 2 off and on.
+            for sense_6 in [0x00, 0x02, 0x11, 0x12, 0x43, 0xF2] {
+                add("10A", "00 04 00", 0x20, 0x06, (head, sense_6));
+            }
         }
     }
     for case in &cases {
         let (program, arguments) = assembled(book, case)?;
         let what = format!(
-            "action {} before {:02X}, mask {:02X?}",
-            case.action, case.next, case.mask
+            "action {} before {:02X}, sense 6 {:02X}, mask {:02X?}",
+            case.action, case.next, case.sense_6, case.mask
         );
         let recovered = book.recover(held(book, case)?)?;
         ensure!(
@@ -132,9 +139,9 @@ fn held(book: &Book, case: &Case) -> Result<HeldRecovery, String> {
         .map(|byte| format!("{byte:02X}"))
         .collect();
     let mut change = format!(
-        "sense 0 = {}; sense 8 = {id}; sense 13 = {SECTOR:02X}; csw = 00 {:06X} 0E 00 0000; \
-         14 = {argument}",
-        case.sense, case.address
+        "sense 0 = {}; sense 6 = {:02X}; sense 8 = {id}; sense 13 = {SECTOR:02X}; \
+         csw = 00 {:06X} 0E 00 0000; 14 = {argument}",
+        case.sense, case.sense_6, case.address
     );
     if let Some(mask) = case.mask {
         change += &format!("; 13 = {mask:02X}");
@@ -157,7 +164,8 @@ fn assembled(book: &Book, case: &Case) -> Result<(Vec<u8>, Vec<u8>), String> {
         .each::<5>()
         .find(|[action, ..]| *action == case.action);
     let [_, seek, sector, id, go_on] = row.ok_or("no such action")?;
-    let track = value(&case.seek_argument[2..4]) * 19 + value(&case.seek_argument[4..]);
+    let cylinder = value(&case.seek_argument[2..4]);
+    let head_reached = usize::from(case.sense_6 & 0x1F);
     let of_place = |place: usize| {
         [
             vec![0, 0],
@@ -168,9 +176,11 @@ fn assembled(book: &Book, case: &Case) -> Result<(Vec<u8>, Vec<u8>), String> {
     };
     let seek = match seek {
         "00 00 and sense 8 to 11" => [&[0, 0], &RECORD[..4]].concat(),
-        "head 0 of the cylinder behind field 14's" => of_place((track / 19 + 1) * 19),
+        "head 0 of the cylinder behind field 14's" => of_place((cylinder + 1) * 19),
         "field 14" => case.seek_argument.to_vec(),
-        "the track behind field 14's" => of_place(track + 1),
+        "the track behind field 14's cylinder and the head reached" => {
+            of_place(cylinder * 19 + head_reached + 1)
+        }
         _ => return Err(format!("seek argument '{seek}'")),
     };
     let sector = match sector {

@@ -1,6 +1,6 @@
 //! Sense: of a cut, of the other unit checks; the names of bits; displacements.
 
-use super::book::{Book, KEPT};
+use super::book::{Book, Ran, KEPT};
 use super::bytes::{big_endian, byte, number, source, value, Checked};
 use crate::simulator::held::HeldRun;
 
@@ -70,43 +70,87 @@ fn cut(book: &Book) -> Checked {
     Ok(())
 }
 
+/// By a drive that steps have led to each head, of a cylinder above 255.
 fn others(book: &Book) -> Checked {
-    let table = book
-        .page
-        .table("Sense", &["check", "bit", "byte", "value"])?;
+    let columns = ["check", "bit", "byte", "value", "byte 6"];
+    let table = book.page.table("Sense", &columns)?;
     table.has(&[
         "command reject",
         "end of cylinder",
         "no record found",
-        "file protected",
+        "file protected, of a seek",
+        "file protected, of a step",
     ])?;
-    for [check, bit, place, on] in table.each() {
-        let mut sense = vec![0; 24];
-        sense[number(place)?] = byte(on)?;
-        ensure!(
-            sense[..3] == book.sense_bits(bit)?,
-            "{check}: {bit} is not {on} in byte {place}"
-        );
-        let cc = book.flag("CC")?;
-        let (chain, arguments) = match check {
-            "command reject" => (book.ccw(0x02, 0, 0, 1)?, vec![]),
-            "end of cylinder" => {
-                let chain = [book.ccw(0x07, 0, cc, 6)?, book.ccw(0x92, 0, 0, 8)?];
-                (chain.concat(), vec![0, 0, 0, 0, 0, 18])
-            }
-            "no record found" => {
-                let chain = [book.ccw(0x07, 0, cc, 6)?, book.ccw(0x1A, 0, 0, 5)?];
-                (chain.concat(), vec![0, 0, 0, 0, 0, 9])
-            }
-            _ => {
-                let chain = [book.ccw(0x1F, 0, cc, 1)?, book.ccw(0x07, 1, 0, 6)?];
-                (chain.concat(), vec![0x18, 0, 0, 0, 0, 0, 0])
-            }
+    for [check, bit, place, on, byte_6] in table.each() {
+        let heads = match check {
+            "end of cylinder" => 18..=18,
+            "file protected, of a step" => 0..=17,
+            _ => 0..=18,
         };
-        let ran = book.run_example(chain, arguments)?;
-        ensure!(ran.sense == sense, "{check}: sense {:02X?}", ran.sense);
+        for head in heads {
+            let mut sense = vec![0; 24];
+            sense[number(place)?] = byte(on)?;
+            ensure!(
+                sense[..3] == book.sense_bits(bit)?,
+                "{check}: {bit} is not {on} in byte {place}"
+            );
+            sense[6] = match byte_6 {
+                "the head on which the drive stands" => head,
+                _ => byte(byte_6)?,
+            };
+            for ran in ended_on(book, check, head.into())? {
+                ensure!(
+                    ran.sense == sense,
+                    "{check} on head {head}: sense {:02X?}",
+                    ran.sense
+                );
+            }
+        }
     }
     Ok(())
+}
+
+/// Runs that a check ends on this head. Its track has R1, those before it R0 alone, so that a 92 steps to
+/// it from the head sought, up to two before it.
+fn ended_on(book: &Book, check: &str, head: usize) -> Result<Vec<Ran>, String> {
+    const AT_MASK: usize = 6;
+    const AT_ID: usize = 7;
+    let cc = book.flag("CC")?;
+    let seek = book.ccw(0x07, 0, cc, 6)?;
+    let mask = book.ccw(0x1F, AT_MASK, cc, 1)?;
+    let count = book.ccw(0x92, 0, cc, 8)?;
+    // The searches examine R0, R1, and R0 once more.
+    let mut ends = match check {
+        "command reject" => vec![(book.ccw(0x02, 0, 0, 1)?, 18)],
+        "end of cylinder" => vec![(count.clone(), 18)],
+        "no record found" => vec![(book.ccw(0x31, AT_ID, cc, 5)?.repeat(3), 18)],
+        "file protected, of a seek" => vec![([&mask[..], &seek].concat(), 18)],
+        _ => vec![([&mask[..], &count, &count].concat(), 18)],
+    };
+    if check == "no record found" && head < 18 {
+        // The image lacks the track of the next head.
+        ends.push((count.clone(), head));
+    }
+    let mut arguments = vec![0, 0];
+    arguments.extend(big_endian(PLACE.0, 2));
+    arguments.extend(big_endian(head.saturating_sub(2), 2));
+    arguments.extend([0x18, 0, 0, 0, 0, 0x63]);
+    let mut runs = Vec::new();
+    for (end, last) in ends {
+        let mut image = Vec::new();
+        for on in 0..=last {
+            let records: &[(usize, &[u8])] = if on == head { &[(1, &[9])] } else { &[] };
+            image.extend(book.track((PLACE.0, on), records)?);
+        }
+        runs.push(book.run(HeldRun {
+            chain: [&seek[..], &count, &end].concat(),
+            arguments: arguments.clone(),
+            storage: vec![KEPT; 64],
+            image,
+            ..HeldRun::default()
+        })?);
+    }
+    Ok(runs)
 }
 
 /// The bits that occur in the error table, by the names that `explain` prints.

@@ -1,15 +1,15 @@
 //! Sentences of the page that no table repeats: each must stand there, and its trial must hold.
 
-use super::book::{Book, Ran, KEPT};
+use super::book::{Book, Ran, Recovered, KEPT};
 use super::bytes::Checked;
 use super::channel::shown;
 use super::questions::changed;
-use crate::simulator::held::{HeldRestart, HeldRun};
+use crate::simulator::held::{HeldRecovery, HeldRestart, HeldRun};
 use crate::simulator::sample;
 
 type Trial = fn(&Book) -> Result<bool, String>;
 
-const SENTENCES: [(&str, Trial); 14] = [
+const SENTENCES: [(&str, Trial); 17] = [
     ("CD goes before CC.", data_chaining_first),
     (
         "A seek to a track that the image lacks is done; it is the next search or read that fails.",
@@ -27,6 +27,21 @@ const SENTENCES: [(&str, Trial); 14] = [
     (
         "A step is file protected where mask bits 3 and 4 are both on; one of them alone leaves it.",
         protected_steps,
+    ),
+    (
+        "A mask that forbids steps forbids each, so the head is the one on which the command began.",
+        protected_where_it_began,
+    ),
+    (
+        "Where the image lacks the track that a restart of 8, 10 or 10A seeks, its 1A finds no record, \
+         and the CSW is that of the 1A: address 001018, or 001020 where a mask was set, and count left 5.",
+        ends_at_the_1a,
+    ),
+    (
+        "Without faults, and without a seek behind the mask, it then ends as under a mask that allows \
+         steps, but for that case: the restart's 1A meets the missing track before the chain's command \
+         does. Storage, both statuses and the sense are the same even so.",
+        protected_steps_run_on,
     ),
     (
         "Then the CSW is that of the restart's 92: address 001028, or 001030 where a mask was set, and \
@@ -214,6 +229,152 @@ fn protected_steps(book: &Book) -> Result<bool, String> {
         holds &= (ran.sense == [0; 24]) != protected;
     }
     Ok(holds)
+}
+
+/// Over heads 5 to 8, of which 8 alone has a record: by each command from 5, and by none from 8.
+fn protected_where_it_began(book: &Book) -> Result<bool, String> {
+    let cc = book.flag("CC")?;
+    let mut image = Vec::new();
+    for head in 5..=8 {
+        let records: &[(usize, &[u8])] = if head == 8 { &[(1, &[9])] } else { &[] };
+        image.extend(book.track((0, head), records)?);
+    }
+    let mut holds = true;
+    for code in [0x86, 0x8E, 0x92, 0x9E] {
+        for (head, protected) in [(5, true), (7, true), (8, false)] {
+            let chain = [
+                book.ccw(0x07, 0, cc, 6)?,
+                book.ccw(0x1F, 6, cc, 1)?,
+                book.ccw(code, 0, book.flag("SLI")?, 40)?,
+            ];
+            let ran = book.run(HeldRun {
+                chain: chain.concat(),
+                arguments: [seek(head), vec![0x18]].concat(),
+                storage: vec![KEPT; 64],
+                image: image.clone(),
+                ..HeldRun::default()
+            })?;
+            let mut sense = vec![0; 24];
+            if protected {
+                sense[..3].copy_from_slice(&book.sense_bits("1.5")?);
+                sense[6] = head;
+            }
+            holds &= ran.sense == sense;
+        }
+    }
+    Ok(holds)
+}
+
+/// Restarts of 8, 10 and 10A that seek 001/00, 000/09 and 000/03, with a mask and without.
+fn ends_at_the_1a(book: &Book) -> Result<bool, String> {
+    let unit = book.status("channel end+device end+unit check")?;
+    let reports = [
+        ("8", "sense 0 = 00 20 00; 14 = 000000000002"),
+        (
+            "10",
+            "sense 0 = 00 04 00; 14 = 000000000009; csw = 00 000008 0E 00 0006",
+        ),
+        ("10A", "sense 0 = 00 04 00; sense 6 = 02; 14 = 000000000000"),
+    ];
+    let mut holds = true;
+    for (action, report) in reports {
+        for (mask, address) in [("13 = absent", 0x1018), ("13 = 18", 0x1020)] {
+            let change = format!("{report}; {mask}; extent = 00000000019A0012");
+            let recovered = book.recover(changed(book, &change)?)?;
+            holds &= book.codes.get(action) == Some(&recovered.action);
+            let ran = book.run(restarted(
+                HeldRun {
+                    chain: recovered.held.chain.clone(),
+                    storage: vec![KEPT; 64],
+                    image: book.pack()?,
+                    ..HeldRun::default()
+                },
+                recovered,
+            ))?;
+            holds &= ran.csw == book.csw_of(address, unit, 0, 5)?;
+            holds &= ran.sense[..3] == book.sense_bits("1.4")?;
+        }
+    }
+    Ok(holds)
+}
+
+/// The run of the restart that a recovery has built.
+fn restarted(held: HeldRun, recovered: Recovered) -> HeldRun {
+    HeldRun {
+        restart: Some(HeldRestart {
+            program: recovered.held.program,
+            arguments: recovered.held.restart_arguments,
+        }),
+        ..held
+    }
+}
+
+/// Counts from 000/00 on, under a mask that forbids steps and under those that allow them: that of R1 of
+/// 000/02, behind 000/01 with R0 alone; and one more, for which the image has no track.
+fn protected_steps_run_on(book: &Book) -> Result<bool, String> {
+    let cc = book.flag("CC")?;
+    let unit = book.status("channel end+device end+unit check")?;
+    let count = |at: usize, flags| book.ccw(0x92, 8 * at, flags, 8);
+    let to_track = [count(0, cc)?, count(1, cc)?, count(2, 0)?].concat();
+    let to_none = [count(0, cc)?, count(1, cc)?, count(2, cc)?, count(3, 0)?].concat();
+    let mut holds = true;
+    for (counts, protected, at_1a) in [(to_track, 2, false), (to_none, 3, true)] {
+        let of = |mask: u8| -> Result<HeldRun, String> {
+            Ok(HeldRun {
+                chain: [&book.ccw(0x1F, 0, cc, 1)?[..], &counts].concat(),
+                arguments: vec![mask],
+                storage: vec![KEPT; 64],
+                image: book.pack()?,
+                ..HeldRun::default()
+            })
+        };
+        let (steps, ran) = run_on(book, of(0x18)?)?;
+        holds &= steps == protected;
+        for mask in [0x00, 0x08, 0x10] {
+            let allowed = book.run(of(mask)?)?;
+            let csw = match at_1a {
+                true => book.csw_of(0x1020, unit, 0, 5)?,
+                false => allowed.csw.clone(),
+            };
+            holds &= ran.csw == csw && csw[4..6] == allowed.csw[4..6];
+            holds &= (ran.csw == allowed.csw) != at_1a;
+            holds &= ran.sense == allowed.sense && ran.storage == allowed.storage;
+        }
+    }
+    Ok(holds)
+}
+
+/// Runs a chain on cylinder 0, and each restart of 10A; how many there were, and the last end.
+fn run_on(book: &Book, mut held: HeldRun) -> Result<(usize, Ran), String> {
+    for restarts in 0..=18 {
+        let ran = book.run(held.clone())?;
+        if ran.sense[..3] != book.sense_bits("1.5")? {
+            return Ok((restarts, ran));
+        }
+        let report = [
+            book.field("sense", &ran.sense)?,
+            book.field("CSW", &ran.csw)?,
+            book.field("address of the cut read's first CCW", &[0, 0])?,
+            book.field("file mask", &[ran.mask])?,
+            book.field("seek argument", &seek(0))?,
+        ];
+        let recovered = book.recover(HeldRecovery {
+            chain: held.chain.clone(),
+            report: report.concat(),
+            extent: book.tracks((0, 0), (410, 18))?,
+            storage: ran.storage.clone(),
+            ..HeldRecovery::default()
+        })?;
+        ensure!(
+            recovered.number == 0 && book.codes.get("10A") == Some(&recovered.action),
+            "a protected step is answered by {} and {:02X}",
+            recovered.number,
+            recovered.action
+        );
+        held.storage = ran.storage;
+        held = restarted(held, recovered);
+    }
+    Err("more protected steps than heads".to_string())
 }
 
 /// An 86 that End of Cylinder ends, right behind a read that is cut.

@@ -132,13 +132,18 @@ impl UnitCheck {
             .collect()
     }
 
-    pub fn sense(self) -> Sense {
+    /// One bit, and for a protected step the head that the drive stands on.
+    pub fn sense(self, head: u16) -> Sense {
         let mut sense = [0; 24];
         match self {
             UnitCheck::Reject(_) => sense[0] = 0x80,
             UnitCheck::EndOfCylinder => sense[1] = 0x20,
             UnitCheck::NoRecordFound(_) => sense[1] = 0x08,
-            UnitCheck::FileProtected(_) => sense[1] = 0x04,
+            UnitCheck::FileProtected(ProtectedRule::Seek) => sense[1] = 0x04,
+            UnitCheck::FileProtected(ProtectedRule::Step) => {
+                sense[1] = 0x04;
+                sense[6] = head as u8;
+            }
         }
         sense
     }
@@ -793,15 +798,22 @@ mod tests {
 
     #[test]
     fn sense_of_the_other_unit_checks() {
-        for (check, byte, value) in [
-            (UnitCheck::Reject(RejectRule::Sector), 0, 0x80),
-            (UnitCheck::EndOfCylinder, 1, 0x20),
-            (UnitCheck::NoRecordFound(NotFoundRule::R0Alone), 1, 0x08),
-            (UnitCheck::FileProtected(ProtectedRule::Step), 1, 0x04),
-        ] {
-            let mut expected = [0; 24];
-            expected[byte] = value;
-            assert_eq!(check.sense(), expected);
+        let step = UnitCheck::FileProtected(ProtectedRule::Step);
+        for check in UnitCheck::all() {
+            let (byte, value) = match check {
+                UnitCheck::Reject(_) => (0, 0x80),
+                UnitCheck::EndOfCylinder => (1, 0x20),
+                UnitCheck::NoRecordFound(_) => (1, 0x08),
+                UnitCheck::FileProtected(_) => (1, 0x04),
+            };
+            for head in 0..=LAST_HEAD {
+                let mut expected = [0; 24];
+                expected[byte] = value;
+                if check == step {
+                    expected[6] = head as u8;
+                }
+                assert_eq!(check.sense(head), expected);
+            }
         }
     }
 

@@ -1,4 +1,5 @@
-//! Question 9 for actions 8, 10 and 10A: the user's seek argument and the CCW that was interrupted.
+//! Question 9 for actions 8, 10 and 10A: the user's seek argument, the CCW that was interrupted and, for
+//! 10A, the head reached.
 
 use super::channel::{Ccw, Channel, Program, CCW_LENGTH, FLAG_CHAIN_COMMAND};
 use super::drive::SEEK;
@@ -15,6 +16,8 @@ rules! {
         NotInTheChain,
         Tic,
         SeekWithoutCc,
+        // In sense 6, for 10A.
+        HeadAboveLast,
     }
 }
 
@@ -35,6 +38,15 @@ impl Interrupted {
 
     pub fn is_seek(&self) -> bool {
         self.ccw.command == SEEK
+    }
+
+    /// What 10A asks besides; the track that the drive had come to, of the cylinder that the user sought.
+    pub fn track_reached(&self, report: &Report) -> Result<TrackAddress, Refusal> {
+        let head = report.head_reached();
+        if head > LAST_HEAD {
+            return Err(Refusal::Interrupted(InterruptedRule::HeadAboveLast));
+        }
+        Ok(TrackAddress { head, ..self.track })
     }
 
     /// What 10 asks besides, of a seek; the next CCW.
@@ -176,6 +188,22 @@ mod tests {
             assert_eq!(rule(argument), Some(InterruptedRule::SeekOffThePack));
         }
         assert_eq!(rule(Some([0; 6])), None);
+    }
+
+    #[test]
+    fn head_reached() {
+        let found = interrupted(&report(0x20)).unwrap();
+        for sense_6 in 0..=255 {
+            let mut report = report(0x20);
+            report.sense[6] = sense_6;
+            let expected = match sense_6 & 0x1F {
+                head @ 0..=18 => Ok(track(410, head.into())),
+                _ => Err(Refusal::Interrupted(InterruptedRule::HeadAboveLast)),
+            };
+            assert_eq!(found.track_reached(&report), expected);
+            // Nothing but 10A asks for it.
+            assert_eq!(interrupted(&report), Ok(found));
+        }
     }
 
     #[test]

@@ -1,5 +1,5 @@
-//! Document 01 and the multitrack commands of document 02 written a second time, in plain Rust, to be
-//! compared with the proved library.
+//! Document 01 with Tickets 1 and 3 of document 02 written a second time, in plain Rust, to be compared
+//! with the proved library.
 //!
 //! Decoded values borrow from the lent bytes. Where a call is refused the rule that decided is
 //! named beside the question's number, so that a test can tell the rules of one question apart;

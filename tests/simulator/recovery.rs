@@ -208,7 +208,7 @@ impl Case<'_> {
             let next = interrupted.next_of_seek(self.chain)?;
             return Ok(self.from_home_address(RestartAction::Ten, interrupted.track, &next));
         }
-        let track = next_track(interrupted.track);
+        let track = next_track(interrupted.track_reached(&self.report)?);
         Ok(self.from_home_address(RestartAction::TenA, track, &interrupted.ccw))
     }
 

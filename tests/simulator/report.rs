@@ -15,6 +15,9 @@ pub const TRIES: u8 = 0x15;
 /// Bit 7: PCI fetch mode.
 pub const MASK_PCI_FETCH: u8 = 0x01;
 
+/// Bits 3 to 7 of sense 6.
+pub const HEAD_REACHED: u8 = 0x1F;
+
 /// By default of zeros, and without what there may be none of.
 #[derive(Clone, Debug, Default, PartialEq, Eq)]
 pub struct Report {
@@ -111,6 +114,11 @@ impl Report {
         self.sense[13]
     }
 
+    /// "the head from sense byte 6, bits 3 to 7".
+    pub fn head_reached(&self) -> u16 {
+        u16::from(self.sense[6] & HEAD_REACHED)
+    }
+
     pub fn is_pci_fetch_mode(&self) -> bool {
         self.mask.unwrap_or(0) & MASK_PCI_FETCH != 0
     }
@@ -195,6 +203,7 @@ mod tests {
         }
         let report = Report::decode(&written(&fields)).unwrap();
         assert_eq!(report.sector(), 13);
+        assert_eq!(report.head_reached(), 6);
         assert_eq!(report.restart_displacement(), 0x0F_1011);
         assert_eq!(report.error_displacement(), 0x1213);
         assert_eq!(report.pattern(), [20, 21, 22]);

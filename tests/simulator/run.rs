@@ -282,7 +282,7 @@ impl<W: Watch> Machine<'_, W> {
             }
             Ok(Done::Read(arriving)) => self.read(ccw, arriving),
             Err(check) => {
-                self.sense = check.sense();
+                self.sense = check.sense(self.drive.track().head);
                 let mut status = Status::ended(ccw.count);
                 status.unit |= UNIT_CHECK;
                 Ok((status, Then::End(End::UnitCheck(check))))
@@ -334,6 +334,7 @@ impl<W: Watch> Machine<'_, W> {
 #[cfg(test)]
 mod tests {
     use super::*;
+    use crate::simulator::large::cylinder_of;
     use crate::simulator::{answer, encode, sample, LAST_CYLINDER};
 
     const SAMPLE: Lent = Lent {
@@ -451,6 +452,43 @@ mod tests {
             let restart = Restart { program, arguments };
             let refused = run_restarted(SAMPLE, restart, &mut [0; 8], LAST_CYLINDER);
             assert_eq!(answer(&refused), 1);
+        }
+    }
+
+    /// Two steps to R1 of a head, the last or not, then a mask, R1 again and one command more.
+    #[test]
+    fn head_in_the_sense_of_a_protected_step_alone() {
+        let arguments = [&[0x18, 0, 0, 0, 0, 0, 16][..], &[0, 0, 0, 0, 0, 3]].concat();
+        let [read, seek] = [encode::ccw(0x92, 0, 0x10, 8), encode::ccw(0x07, 7, 0, 6)];
+        let [search, rejected] = [5, 4].map(|count| encode::ccw(0xB1, 0, 0, count));
+        for (sought, head, last, on) in [
+            (1, 18, read, &[(1, 0x20)][..]),
+            (7, 5, read, &[(1, 0x04), (6, 5)]),
+            (7, 5, search, &[(1, 0x04), (6, 5)]),
+            (7, 5, seek, &[(1, 0x04)]),
+            (7, 5, rejected, &[(0, 0x80)]),
+        ] {
+            let chain = [
+                encode::ccw(0x07, sought, 0x40, 6),
+                encode::ccw(0x92, 0, 0x50, 8),
+                encode::ccw(0x1F, 0, 0x40, 1),
+                encode::ccw(0x92, 0, 0x50, 8),
+                last,
+            ]
+            .concat();
+            let image = cylinder_of(|on| u8::from(on == head), 1);
+            let lent = Lent {
+                chain: &chain,
+                arguments: &arguments,
+                image: &image,
+                faults: &[],
+            };
+            let outcome = run(lent, &mut [], 4_096, LAST_CYLINDER).unwrap();
+            let mut sense = [0; 24];
+            for &(byte, value) in on {
+                sense[byte] = value;
+            }
+            assert_eq!((outcome.sense, outcome.csw[3]), (sense, 0x28));
         }
     }
 

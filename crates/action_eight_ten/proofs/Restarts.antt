@@ -1,16 +1,19 @@
 -- Actions 8, 10 and 10A, from the tests that the code makes.
 --   home-built                     the restart at a home address
 --   last-seek .. next-chain        an interrupted seek, by the CCW that comes next
+--   head-off, head-on              the head reached
 --   no-track .. with-both          by the user's track and the interrupted CCW
 --   eight-no-track .. ten-on       the same for each action
-use Prim.Native.Nat.{ℕ, _-_}
+use Prim.Native.Nat.{ℕ, _-_, _<_, _≤_}
 use mathlib.Core.Path.{_≡_, refl, ap, sym, _∙_}
 use mathlib.Core.Bool.{true, false}
 use mathlib.Core.List.{List, []}
+use borrow.Author.Tests.{le-leb, lt-leb}
 use Rattle.base.specs.Choice.{pick, opt}
 use Rattle.base.proofs.Choice.{pick-true, pick-false}
 use Rattle.questions.specs.declared.Question.the-variants as Question
 use Rattle.address.specs.declared.Address.{Address}
+use Rattle.address.specs.declared.Extent.{Extent}
 use Rattle.channel.specs.declared.Ccw.{Ccw}
 use Rattle.channel.specs.declared.Csw.{Csw}
 use Rattle.channel.specs.declared.Location.{Location}
@@ -23,27 +26,29 @@ use Rattle.drive.specs.declared.FileMask.{FileMask}
 use Rattle.drive.specs.Command.{commandOf}
 use Rattle.restart.specs.Restart.{ccwBytes, programOf, restartArgumentsOf}
 use Rattle.recovery.specs.Correct.{mend}
+use Rattle.recovery.specs.Table.{Row}
 use Rattle.recovery.specs.Report.{Report}
 use Rattle.recovery.specs.Recovery as Recovery
 use Rattle.recovery.specs.Recovery.{Given, seekAllowed, onlyChain, onNext, isSeek, nextCylinder, nextTrack}
 use Rattle.report.specs.declared.User.the-variants.{Track, Missing}
 use Rattle.report.specs.declared.Told.{Told}
+use Rattle.report.specs.Told.{Tells}
 use Rattle.correction.specs.declared.Correction.{Correction}
 use Rattle.correction.specs.Retraced.{mended, nothing}
 use Rattle.recovered.specs.declared.Kind.{Kind}
 use Rattle.recovered.specs.declared.Kind.the-variants.{Eight, Ten, TenA}
 use Rattle.recovered.specs.declared.Recovered.the-variants as Recovered
-use Rattle.recovered.specs.Applied.{applied}
+use Rattle.recovered.specs.Applied.{givenOf, applied}
 use Rattle.restart.specs.declared.ReadCount.the-variants.{Omitted}
 use Rattle.decision.specs.declared.Orientation.{Orientation}
 use Rattle.decision.specs.declared.Orientation.the-variants.{Home}
 use Rattle.decision.specs.declared.RestartPlan.{RestartPlan}
 use Rattle.decision.specs.declared.Decision.{Decision}
 use Rattle.decision.specs.declared.Decision.the-variants.{Answers, Restarts}
-use Rattle.decision.specs.Decision.{orientationOf, programBy, argumentsBy, done, bounded}
+use Rattle.decision.specs.Decision.{orientationOf, programBy, argumentsBy, done, bounded, Means}
 use Rattle.recovered.specs.Allowed.{allowed}
 use Rattle.decision.proofs.Bounded.{by-seek, applied-pick}
-use Rattle.action_eight_ten.specs.EightTen.{Acts, Interrupts, DecidesBy, Homes, SeekRestarts}
+use Rattle.action_eight_ten.specs.EightTen.{Acts, Interrupts, DecidesBy, Homes, SeekRestarts, ReachedRestarts}
 
 -- the answer where report and chain do not agree
 abbrev refusal : Decision
@@ -97,6 +102,19 @@ module _ (chain : List ℕ) (csw : Csw) (mask : FileMask) (track : Address) (c :
     unfolding onNext
     next-chain to e d q k = by-next d (Got (Chain to) e) q (k Recovery.ten chain csw refl)
 
+-- ---- the head reached
+
+module _ (csw : Csw) (mask : FileMask) (track : Address) (head : ℕ) where
+  pub head-off : 18 < head → ReachedRestarts csw mask track head refusal
+  unfolding Recovery.reachedRestart Recovery.reachedTrack pick opt applied done bounded
+  head-off h = λ chain rows x r st p a u v s. rw (s, lt-leb _ _ h)
+
+  pub head-on : (b : Address) (d : Decision) → head ≤ 18 → b ≡ nextTrack (record { cylinder = track .cylinder; head = head })
+      → Homes mask b (csw .address - 8) TenA d → ReachedRestarts csw mask track head d
+  unfolding Recovery.reachedRestart Recovery.reachedTrack Recovery.homeRestart pick opt
+  head-on b d h n k = λ chain rows x r st p a u v s.
+      rw (s, le-leb _ _ h, u, ← n) (k Recovery.tenA chain csw refl rows x r st p a u v)
+
 -- ---- the user's track and the interrupted CCW
 
 -- what follows for a track and a CCW
@@ -112,14 +130,18 @@ module _ (f : Follows) (chain : List ℕ) (t : Told) where
   no-track e = λ size rows x r st p a told n. rw (told .user, e)
 
   module _ (track : Address) (e : t .user ≡ Track track) where
+    -- what follows for this track and a CCW, by every report that tells t
+    abbrev Follows-told : Ccw → Decision → Type 0
+    Follows-told c d = (rows : List Row) (x : Extent) (r : Report) (st p a : List ℕ) → Tells r t → Means x d st p a (f (givenOf rows chain x) r st track c)
+
     no-interrupted : Interrupts chain (t .csw) Past → Whole refusal
     unfolding Recovery.withTrack opt applied done bounded
     no-interrupted i = λ size rows x r st p a told n. rw (told .user, e, ← i rows x r st (told .csw))
 
-    with-both : (c : Ccw) (d : Decision) → Interrupts chain (t .csw) (Holds c) → DecidesBy (λ g q st. f g q st track c) chain (t .csw) (t .mask) d → Whole d
+    with-both : (c : Ccw) (d : Decision) → Interrupts chain (t .csw) (Holds c) → Follows-told c d → Whole d
     unfolding Recovery.withTrack opt
     with-both c d i k = λ size rows x r st p a told n.
-        rw (told .user, e, ← i rows x r st (told .csw)) (k rows x r st p a (told .csw) (told .mask))
+        rw (told .user, e, ← i rows x r st (told .csw)) (k rows x r st p a told)
 
 -- ---- the actions
 
@@ -127,7 +149,7 @@ abbrev eightOf : Follows
 eightOf g q st a c = Recovery.homeRestart g q st Recovery.eight (nextCylinder a) (q .csw .address - 8)
 
 abbrev tenOf : Follows
-tenOf g q st a c = pick (isSeek (commandOf (c .command))) (Recovery.seekRestart g q st a c) (Recovery.homeRestart g q st Recovery.tenA (nextTrack a) (q .csw .address - 8))
+tenOf g q st a c = pick (isSeek (commandOf (c .command))) (Recovery.seekRestart g q st a c) (Recovery.reachedRestart g q st a)
 
 module _ (chain : List ℕ) (t : Told) where
   pub eight-no-track : t .user ≡ Missing → Acts Recovery.actionEight chain t refusal
@@ -152,19 +174,17 @@ module _ (chain : List ℕ) (t : Told) where
       unfolding Recovery.actionEight Recovery.homeRestart
       eight-goes track n k =
           with-both eightOf chain t user e c d i
-          (λ rows x r st p a u v. rw (u, ← n) (k Recovery.eight chain (t .csw) refl rows x r st p a u v))
-
-      by-command : DecidesBy (λ g q st. tenOf g q st user c) chain (t .csw) (t .mask) d → Acts Recovery.actionTen chain t d
-      unfolding Recovery.actionTen
-      by-command k = with-both tenOf chain t user e c d i k
+          (λ rows x r st p a told. rw (told .csw, ← n) (k Recovery.eight chain (t .csw) refl rows x r st p a (told .csw) (told .mask)))
 
       pub ten-seek : isSeek (commandOf (c .command)) ≡ true → SeekRestarts chain (t .csw) (t .mask) user c d → Acts Recovery.actionTen chain t d
-      ten-seek h k = by-command (λ rows x r st p a u v. k rows x r st p a u v ∙ sym (ap (λ q. applied q st p a) (pick-true _ _ h)))
+      unfolding Recovery.actionTen
+      ten-seek h k =
+          with-both tenOf chain t user e c d i
+          (λ rows x r st p a told. k rows x r st p a (told .csw) (told .mask) ∙ sym (ap (λ q. applied q st p a) (pick-true _ _ h)))
 
-      pub ten-on : (track : Address) → isSeek (commandOf (c .command)) ≡ false → track ≡ nextTrack user → Homes (t .mask) track (t .csw .address - 8) TenA d
-          → Acts Recovery.actionTen chain t d
-      unfolding Recovery.homeRestart
-      ten-on track h n k =
-          by-command
-          (λ rows x r st p a u v.
-          rw (u, ← n) (k Recovery.tenA chain (t .csw) refl rows x r st p a u v) ∙ sym (ap (λ q. applied q st p a) (pick-false _ _ h)))
+      pub ten-on : isSeek (commandOf (c .command)) ≡ false → ReachedRestarts (t .csw) (t .mask) user (t .sense .head) d → Acts Recovery.actionTen chain t d
+      unfolding Recovery.actionTen
+      ten-on h k =
+          with-both tenOf chain t user e c d i
+          (λ rows x r st p a told.
+          k chain rows x r st p a (told .csw) (told .mask) (told .sense .head) ∙ sym (ap (λ q. applied q st p a) (pick-false _ _ h)))

@@ -49,3 +49,9 @@ Homes mask track to kind d =
 -- the restart of an interrupted seek
 abbrev pub SeekRestarts : (chain : List ℕ) → Csw → FileMask → Address → Ccw → Decision → Type 0
 SeekRestarts chain csw mask track c d = DecidesBy (λ g q st. Recovery.seekRestart g q st track c) chain csw mask d
+
+-- 10A, of every report with this CSW, mask and head reached, whatever the chain
+abbrev pub ReachedRestarts : Csw → FileMask → Address → (head : ℕ) → Decision → Type 0
+ReachedRestarts csw mask track head d =
+    (chain : List ℕ) (rows : List Row) (x : Extent) (r : Report) (st p a : List ℕ) → r .csw ≡ csw → r .mask ≡ mask → Recovery.reachedHead (r .sense) ≡ head
+    → Means x d st p a (Recovery.reachedRestart (givenOf rows chain x) r st track)

@@ -25,7 +25,7 @@ ghost use Rattle.recovery.specs.Recovery as Recovery;
 ghost use Rattle.report.specs.Told.{ToldLow};
 ghost use Rattle.decision.specs.declared.Orientation.the-variants.{Home};
 ghost use Rattle.decision.specs.Decision.{orientationOf, GoesLow};
-ghost use Rattle.action_eight_ten.specs.EightTen.{Acts, Interrupts, Behind, Homes, SeekRestarts};
+ghost use Rattle.action_eight_ten.specs.EightTen.{Acts, Interrupts, Behind, Homes, SeekRestarts, ReachedRestarts};
 
 // Whether a command is a seek.
 fn is_seek(k: Command) -> bool
@@ -138,7 +138,25 @@ fn seek_restart(chain: &[u8], csw: Csw, mask: FileMask, a: Address, c: Ccw) -> D
     }
 }
 
-// Action 10; for another CCW than a seek 10A: the next track, and the interrupted CCW again.
+// Action 10A: the track behind the head reached, on the user's cylinder, and the interrupted CCW again.
+fn reached_restart(csw: Csw, mask: FileMask, a: Address, head: usize) -> Decision
+    requires { ⌜ 8 ≤ csw .address ⌝ }
+    requires { ⌜ csw .address ≤ 2048 ⌝ }
+    requires { ⌜ onPack lastCylinder a ≡ true ⌝ }
+    ensures { λ r. ⌜ ReachedRestarts csw mask a head r ⌝ }
+    ensures { λ r. ⌜ GoesLow r ⌝ }
+{
+    if 18 < head {
+        return Decision::Answers(Recovered::Refused(Question::Agreement));
+    }
+    let b = Address {
+        cylinder: a.cylinder,
+        head: head,
+    };
+    home(mask, next_track(b), csw.address - 8, Kind::TenA)
+}
+
+// Action 10; for another CCW than a seek 10A.
 pub fn ten(chain: &[u8], t: Told) -> Decision
     requires { ⌜ length (now chain) ≤ 2048 ⌝ }
     requires { ⌜ ToldLow t ⌝ }
@@ -147,6 +165,7 @@ pub fn ten(chain: &[u8], t: Told) -> Decision
 {
     let csw = t.csw;
     let mask = t.mask;
+    let sense = t.sense;
     let user = t.user;
     let User::Track(a) = user else {
         return Decision::Answers(Recovered::Refused(Question::Agreement));
@@ -157,5 +176,5 @@ pub fn ten(chain: &[u8], t: Told) -> Decision
     if is_seek(drive::command_of(c.command)) {
         return seek_restart(chain, csw, mask, a, c);
     }
-    home(mask, next_track(a), csw.address - 8, Kind::TenA)
+    reached_restart(csw, mask, a, sense.head)
 }

@@ -1,12 +1,16 @@
 -- What a command comes to, as the code has it: the definitions' answers with storage apart.
-use Prim.Native.Nat.{ℕ, _<_}
+use Prim.Native.Nat.{ℕ, _+_, _<_}
 use mathlib.Core.Path.{_≡_}
 use mathlib.Core.List.{List, [], _∷_}
 use Rattle.address.specs.Order.{lastCylinder}
 use Rattle.pack.specs.Pack.{packOf}
 use Rattle.abstract_machine.specs.Machine.{goes, ends, cuts}
+use Rattle.channel.specs.declared.Ccw.{Ccw}
+use Rattle.channel.specs.declared.Location.{Location}
 use Rattle.channel.specs.Ccw.{Lent}
+use Rattle.channel.specs.Csw.{cswAt, endStatus, unitCheck}
 use Rattle.location.specs.Low.{Low, CswLow}
+use Rattle.drive.specs.Drive as Abstract
 use Rattle.drive.specs.Step as Step
 use Rattle.position.specs.declared.Drive.{Drive}
 use Rattle.position.specs.declared.Examined.{Examined}
@@ -14,7 +18,7 @@ use Rattle.position.specs.Standing.{driveOf, Standing, ExaminedStands}
 use Rattle.command.specs.declared.Check.{Check}
 use Rattle.command.specs.declared.Check.the-variants.{Rejected, NotFound, Protected, EndOfCylinder}
 use Rattle.command.specs.declared.Status.{Status}
-use Rattle.command.specs.declared.Status.the-variants.{Quiet, Refused}
+use Rattle.command.specs.declared.Status.the-variants.{Quiet, Refused, ProtectedStep}
 use Rattle.command.specs.declared.State.{State}
 use Rattle.command.specs.declared.End.{End}
 use Rattle.command.specs.declared.Cut.{Cut}
@@ -32,6 +36,7 @@ checkOf EndOfCylinder = Step.endOfCylinder
 abbrev pub senseOf : Status → List ℕ
 senseOf Quiet = Step.noSense
 senseOf (Refused k) = Step.checkSense (checkOf k)
+senseOf (ProtectedStep head) = Step.checkSense (Step.protectedStep head)
 
 -- a state between two commands, with storage st
 abbrev pub stateOf : State → List ℕ → Step.State
@@ -65,6 +70,10 @@ answerOf (Cuts k) st = cuts (cutOf k st)
 -- an answer of the definitions for every storage, which leaves storage as it is
 abbrev pub Answers : (List ℕ → Step.Answer) → Answer → Type 0
 Answers f r = (st : List ℕ) → f st ≡ answerOf r st
+
+-- a unit check with the sense of a status, as the definitions' refusals have it
+abbrev pub Checked : Status → Location → Ccw → Abstract.Drive → Answer → Type 0
+Checked s l c d r = Answers (λ st. ends (record { csw = cswAt l (endStatus + unitCheck) 0 (c .count); sense = senseOf s; mask = d .mask; storage = st })) r
 
 -- ---- what is kept from command to command
 

@@ -12,7 +12,7 @@ ghost use Rattle.channel.specs.Fetch.{InBytes};
 ghost use Rattle.location.specs.Low.{Low};
 ghost use Rattle.drive.specs.Step as Step;
 ghost use Rattle.position.specs.Standing.{driveOf};
-ghost use Rattle.command.specs.Answer.{checkOf, Answers, KeptWith, KeptAlways};
+ghost use Rattle.command.specs.Answer.{checkOf, Answers, Checked, KeptWith, KeptAlways};
 
 // The unit checks that are no data check.
 pub enum Check {
@@ -22,10 +22,12 @@ pub enum Check {
     EndOfCylinder,
 }
 
-// Why a chain ended: of itself or by a program check, or by a unit check.
+// Why a chain ended: of itself or by a program check; by a unit check; by a step to the next head that the mask forbids, with the head
+// that the drive stands on.
 pub enum Status {
     Quiet,
     Refused(Check),
+    ProtectedStep(u8),
 }
 
 // Between two commands: the drive, the place of the next CCW, and the CCW that was fetched last with its count left.
@@ -79,19 +81,39 @@ pub fn program_check(l: Location, d: Drive) -> Answer
     })
 }
 
-// A unit check: the command moves nothing.
+// A unit check, with this status: the command moves nothing.
+fn checked(s: Status, l: Location, c: Ccw, d: Drive) -> Answer
+    requires { ⌜ Low l ⌝ }
+    requires { ⌜ InBytes c ⌝ }
+    ensures { λ r. ⌜ Checked s l c (driveOf d) r ⌝ }
+    ensures { λ r. ⌜ KeptAlways r ⌝ }
+{
+    let mask = d.mask;
+    Answer::Ends(End {
+        csw: location::csw_at(l, channel::END_STATUS | channel::UNIT_CHECK, 0, c.count),
+        status: s,
+        mask: mask,
+    })
+}
+
+// A unit check by one of the checks.
 pub fn refuse(k: Check, l: Location, c: Ccw, d: Drive) -> Answer
     requires { ⌜ Low l ⌝ }
     requires { ⌜ InBytes c ⌝ }
     ensures { λ r. ⌜ Answers (Step.refusal (checkOf k) l c (driveOf d)) r ⌝ }
     ensures { λ r. ⌜ KeptAlways r ⌝ }
 {
-    let mask = d.mask;
-    Answer::Ends(End {
-        csw: location::csw_at(l, channel::END_STATUS | channel::UNIT_CHECK, 0, c.count),
-        status: Status::Refused(k),
-        mask: mask,
-    })
+    checked(Status::Refused(k), l, c, d)
+}
+
+// A step that the mask forbids, on this head.
+pub fn refuse_step(head: u8, l: Location, c: Ccw, d: Drive) -> Answer
+    requires { ⌜ Low l ⌝ }
+    requires { ⌜ InBytes c ⌝ }
+    ensures { λ r. ⌜ Answers (Step.refusal (Step.protectedStep head) l c (driveOf d)) r ⌝ }
+    ensures { λ r. ⌜ KeptAlways r ⌝ }
+{
+    checked(Status::ProtectedStep(head), l, c, d)
 }
 
 // The command whose last CCW is c at l is done, with the drive behind it: on to a place, or the end where c does not chain.

@@ -41,7 +41,7 @@ Steps (fails k) = StepCheck k
 
 stepped-checks : (d : Drive) → Steps (Step.stepped d)
 unfolding Step.stepped
-stepped-checks d = both Steps _ (both Steps _ by-the-mask tt) past-the-last-head
+stepped-checks d = both Steps _ (both Steps _ (by-the-mask _) tt) past-the-last-head
 
 failed-is : (r : Reached) (k : Check) → Steps r → r ≡ fails k → StepCheck k
 failed-is r k h q = rw q at h

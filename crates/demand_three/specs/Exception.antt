@@ -4,6 +4,7 @@
 --   StepCheck     the unit checks by which a step fails
 --   LastStep      the uncut run's last command is such a one, behind a faulted read
 --   SameButFor    the two ends are the same but for address and count left, and these too unless the last command is such a one
+use Prim.Native.Nat.{ℕ}
 use mathlib.Core.Path.{_≡_}
 use mathlib.Core.Bool.{true}
 use mathlib.Core.Logic.{_⊎_}
@@ -15,14 +16,14 @@ use Rattle.channel.specs.declared.Location.the-variants.{Restart}
 use Rattle.channel.specs.declared.Fetched.the-variants.{Got}
 use Rattle.channel.specs.Ccw.{resolve}
 use Rattle.channel.specs.Csw.{cswAt}
-use Rattle.drive.specs.Step.{State, End, Check, notFound, protected, endOfCylinder, checkSense, step}
+use Rattle.drive.specs.Step.{State, End, Check, notFound, endOfCylinder, protectedStep, checkSense, step}
 use Rattle.restart.specs.Restart.{countPlace, isMultitrackData}
 use Rattle.demand_three.specs.Demand.{Lending, settingOf, Begins, Provided, takesFaulted, endOf}
 
 -- "End of Cylinder, File Protected, or a step to a track that isn't in the image"
 pub data StepCheck : Check → Type 0 where
   past-the-last-head : StepCheck endOfCylinder
-  by-the-mask : StepCheck protected
+  by-the-mask : (head : ℕ) → StepCheck (protectedStep head)
   to-no-track : StepCheck notFound
 
 -- The uncut run ends with e by the 86 or 8E that comes next in the state `last`, which fails by a step; the command before it reads a faulted data area.

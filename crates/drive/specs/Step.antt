@@ -1,4 +1,4 @@
--- One command of a run (document 01, "Channel" and "Drive"; document 02, "Read on to the next head").
+-- One command of a run (document 01, "Channel" and "Drive"; document 02, "Read on to the next head" and "Head reached, for 10A").
 -- A command is first planned, with no knowledge of the fault list; only a plan that takes a data area asks the list.
 -- So a faultless run is the same definition with an empty list.
 use Prim.Native.Nat.{ℕ, zero, suc, _+_, _-_}
@@ -79,13 +79,17 @@ programCheck l d st = ends (record { csw = cswAt l 0 programCheckStatus 0; sense
 -- The unit checks that are no data check.
 pub data Check : Type 0 where
   rejected notFound protected endOfCylinder : Check
+  -- of a step to the next head that is File Protected, with the head that the drive stands on
+  protectedStep : ℕ → Check
 
--- "only one bit is on: 0.0 command reject, 1.4 no record found, 1.5 file protected"; "End of Cylinder (1.2)"
+-- "only one bit is on: 0.0 command reject, 1.4 no record found, 1.5 file protected"; "End of Cylinder (1.2)". With one exception, of sense byte 6,
+-- bits 3 to 7: "The trial drive sets these bits to the head it stands on when a step is File Protected."
 unfoldable pub checkSense : Check → List ℕ
 checkSense rejected = 0x80 ∷ replicate 23 0
 checkSense notFound = 0 ∷ 0x08 ∷ replicate 22 0
 checkSense protected = 0 ∷ 0x04 ∷ replicate 22 0
 checkSense endOfCylinder = 0 ∷ 0x20 ∷ replicate 22 0
+checkSense (protectedStep head) = 0 ∷ 0x04 ∷ 0 ∷ 0 ∷ 0 ∷ 0 ∷ head ∷ replicate 17 0
 
 -- "commands rejected, protected or not found move nothing"; of End of Cylinder and a protected step: "both move nothing, with no incorrect length".
 -- The count left is the CCW's own.
@@ -257,7 +261,7 @@ nextHead d = atIndex (record { cylinder = d .at .cylinder; head = d .at .head + 
 unfoldable pub stepped : Drive → Reached
 stepped d =
     pick (ltb (d .at .head) 18)
-    (pick (protectsStep (d .mask)) (fails protected) (reaches (nextHead d)))
+    (pick (protectsStep (d .mask)) (fails (protectedStep (d .at .head))) (reaches (nextHead d)))
     (fails endOfCylinder)
 
 -- "Where the single-track form would pass the index, these step to the next head": a search, to the count area that comes next. A track that is

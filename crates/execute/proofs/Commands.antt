@@ -42,8 +42,7 @@ use Rattle.position.specs.Standing.{driveOf}
 use Rattle.command.specs.declared.State.{State}
 use Rattle.command.specs.declared.Answer.{Answer}
 use Rattle.location.specs.Low.{Low}
-use Rattle.command.specs.declared.Check.{Check}
-use Rattle.command.specs.Answer.{checkOf, Answers, settingWith, lentOf}
+use Rattle.command.specs.Answer.{Answers, settingWith, lentOf}
 use Rattle.heads.specs.declared.Reached.{Reached}
 use Rattle.heads.specs.declared.Reached.the-variants.{Reaches}
 use Rattle.heads.specs.Reached.{reachedOf}
@@ -221,8 +220,8 @@ module _ (chain arguments program restartArguments : List ℕ) where
     -- ---- by where it is done
 
     module _ (d : Drive) where
-      pub failed-performs : (t : Reached) (x : Check) → reachedOf t ≡ Step.fails (checkOf x) → ReachesFor image c k (driveOf d) t
-          → Answers (Step.refusal (checkOf x) l c (driveOf d)) r
+      pub failed-performs : (t : Reached) (x : Step.Check) → reachedOf t ≡ Step.fails x → ReachesFor image c k (driveOf d) t
+          → Answers (Step.refusal x l c (driveOf d)) r
           → Performs chain arguments program restartArguments image faults l c k (driveOf d) st r st
       unfolding Step.onReached Step.refuse Step.carry
       failed-performs t x e reach a = λ fs f. ap (Step.carry fs st) (rw e at (reach p l st)) ∙ a st

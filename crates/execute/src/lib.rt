@@ -115,7 +115,10 @@ fn perform(
     let j = single_track(k);
     match reach(image, c, k, d) {
         Reached::NotFound => command::refuse(Check::NotFound, l, c, d),
-        Reached::Protected => command::refuse(Check::Protected, l, c, d),
+        Reached::Protected(stood) => {
+            let at = stood.at;
+            command::refuse_step(at.head as u8, l, c, d)
+        }
         Reached::EndOfCylinder => command::refuse(Check::EndOfCylinder, l, c, d),
         Reached::Reaches(e) => perform_on_track(
             chain,

@@ -1,10 +1,11 @@
 -- Lines of what recovery answers.
 use Prim.Native.Nat.{ℕ}
 use mathlib.Core.List.{List, [], _++_}
-use Rattle.text.specs.Text.{ascii}
+use Rattle.text.specs.Text.{ascii, number}
 use Rattle.status.specs.Status.{cswText}
 use Rattle.words.specs.Words.{item}
 use Rattle.channel.specs.declared.Csw.{Csw}
+use Rattle.recovery.specs.Recovery.{reachedHead}
 use Rattle.recovered.specs.declared.Kind.{Kind}
 use Rattle.recovered.specs.declared.Kind.the-variants.{Five, FiveA, Eight, Ten, TenA}
 use Rattle.recovered.specs.declared.Recovered.{Recovered}
@@ -45,17 +46,21 @@ restartIndex Eight = 7
 restartIndex Ten = 8
 restartIndex TenA = 9
 
--- only action 5 corrects storage
-unfoldable pub mendedText : Kind → (sense storage : List ℕ) → List ℕ
-mendedText Five sense st = correctionText sense st
-mendedText FiveA sense st = correctionText sense st
-mendedText Eight sense st = []
-mendedText Ten sense st = []
-mendedText TenA sense st = []
+-- "For 10A the cylinder comes from the user's argument and the head from sense byte 6": the head in two digits
+unfoldable pub headText : (sense : List ℕ) → List ℕ
+headText sense = ascii "head reached" ++ number 10 2 (reachedHead sense) ++ ascii ", by sense byte 6, on the cylinder of the user's seek argument\n"
+
+-- what the action rests on: only action 5 corrects storage, and only 10A goes by the head reached
+unfoldable pub detailText : Kind → (sense storage : List ℕ) → List ℕ
+detailText Five sense st = correctionText sense st
+detailText FiveA sense st = correctionText sense st
+detailText Eight sense st = []
+detailText Ten sense st = []
+detailText TenA sense st = headText sense
 
 -- "restart program, 64 bytes at 1000"
 unfoldable pub restartText : Kind → (sense storage program restartArguments : List ℕ) → List ℕ
-restartText k sense st p a = actionLine (restartIndex k) ++ mendedText k sense st ++ ccwLines (ascii "restart") 0x1000 p a (usedIn p)
+restartText k sense st p a = actionLine (restartIndex k) ++ detailText k sense st ++ ccwLines (ascii "restart") 0x1000 p a (usedIn p)
 
 -- "'finished' with the CSW less unit check"
 unfoldable pub finishedText : Csw → (sense storage : List ℕ) → List ℕ

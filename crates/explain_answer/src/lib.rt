@@ -6,7 +6,7 @@ ghost use mathlib.Core.Path.{_≡_};
 ghost use Prim.Native.Nat.{_+_, _≤_};
 ghost use lib.ListN.{length};
 ghost use Rattle.text.specs.Text.{Puts};
-ghost use Rattle.explain_answer.specs.Answer.{actionLine, restartIndex, cswLine, mendedText, restartText, finishedText, answerText};
+ghost use Rattle.explain_answer.specs.Answer.{actionLine, restartIndex, cswLine, headText, detailText, restartText, finishedText, answerText};
 
 // An action in words, by its number in the list.
 fn put_action(out: &mut [u8], at: usize, i: usize) -> usize
@@ -45,11 +45,28 @@ fn restart_index(k: Kind) -> usize
     }
 }
 
-// The correction, where the action has one.
-fn put_mended(out: &mut [u8], at: usize, k: Kind, sense: &[u8], storage: &[u8]) -> usize
+// Where the track of 10A comes from.
+fn put_head(out: &mut [u8], at: usize, sense: &[u8]) -> usize
+    requires { ⌜ at + 80 ≤ length (now out) ⌝ }
+    requires { ⌜ length (now sense) ≡ 24 ⌝ }
+    ensures { λ r. ⌜ Puts (now (out .entry)) at (headText (now (sense .entry))) (now (out .exit)) r ⌝ }
+    ensures { λ r. ⌜ r ≤ at + 80 ⌝ }
+{
+    let head = report::reached_head(sense[6]);
+    let number = text::put(out, at, b"head reached");
+    let rest = text::put_number(out, number, 10, 2, head);
+    text::put(
+        out,
+        rest,
+        b", by sense byte 6, on the cylinder of the user's seek argument\n",
+    )
+}
+
+// What the action rests on: a correction, or the head reached.
+fn put_detail(out: &mut [u8], at: usize, k: Kind, sense: &[u8], storage: &[u8]) -> usize
     requires { ⌜ at + 233 ≤ length (now out) ⌝ }
     requires { ⌜ length (now sense) ≡ 24 ⌝ }
-    ensures { λ r. ⌜ Puts (now (out .entry)) at (mendedText k (now (sense .entry)) (now (storage .entry))) (now (out .exit)) r ⌝ }
+    ensures { λ r. ⌜ Puts (now (out .entry)) at (detailText k (now (sense .entry)) (now (storage .entry))) (now (out .exit)) r ⌝ }
     ensures { λ r. ⌜ r ≤ at + 233 ⌝ }
 {
     match k {
@@ -57,7 +74,7 @@ fn put_mended(out: &mut [u8], at: usize, k: Kind, sense: &[u8], storage: &[u8]) 
         Kind::FiveA => explain_correction::put_correction(out, at, sense, storage),
         Kind::Eight => at,
         Kind::Ten => at,
-        Kind::TenA => at,
+        Kind::TenA => put_head(out, at, sense),
     }
 }
 
@@ -83,7 +100,7 @@ fn put_restart(
     let i = restart_index(k);
     let n = explain_ccws::used_in(program);
     let second = put_action(out, at, i);
-    let third = put_mended(out, second, k, sense, storage);
+    let third = put_detail(out, second, k, sense, storage);
     explain_ccws::put_ccws(
         out,
         third,

@@ -44,7 +44,7 @@ module _ (x : Abstract.Drive) where
   unfolding Step.stepped pick
   step-ends h = rw (le-ltb _ _ h)
 
-  pub step-protected : x .at .head < 18 → Step.protectsStep (x .mask) ≡ true → Step.fails Step.protected ≡ Step.stepped x
+  pub step-protected : x .at .head < 18 → Step.protectsStep (x .mask) ≡ true → Step.fails (Step.protectedStep (x .at .head)) ≡ Step.stepped x
   unfolding Step.stepped pick
   step-protected h e = rw (lt-ltb _ _ h, e)
 
@@ -58,7 +58,7 @@ module _ (x : Abstract.Drive) where
       split (ltb (x .at .head) 18)
       (λ h.
       split (Step.protectsStep (x .mask))
-      (λ p. let v : Step.reaches y ≡ Step.fails Step.protected = rw (h, p) at e in let z : _≡_ {A = ℕ} 0 1 = cc in absurd (omega arith))
+      (λ p. let v : Step.reaches y ≡ Step.fails (Step.protectedStep (x .at .head)) = rw (h, p) at e in let z : _≡_ {A = ℕ} 0 1 = cc in absurd (omega arith))
       (λ p. let v : Step.reaches y ≡ Step.reaches (Step.nextHead x) = rw (h, p) at e in let q : y ≡ Step.nextHead x = cc in (ltb-true _ _ h, ap (λ (d : Abstract.Drive). d .at .head) q)))
       (λ h. let v : Step.reaches y ≡ Step.fails Step.endOfCylinder = rw h at e in let z : _≡_ {A = ℕ} 0 1 = cc in absurd (omega arith))
 
@@ -142,5 +142,5 @@ no-reach x (inr (inr e)) f = omega arith
 pub failed : (r : Reached) → OneOf (1 ∷ 2 ∷ 3 ∷ []) (Declared.tagOf ReachedType.the-type r) → (k : Step.Check) × (reachedOf r ≡ Step.fails k)
 failed (Reaches d) o = absurd (no-reach _ o refl)
 failed NotFound o = (Step.notFound, refl)
-failed Protected o = (Step.protected, refl)
+failed (Protected d) o = (Step.protectedStep (d .at .head), refl)
 failed EndOfCylinder o = (Step.endOfCylinder, refl)

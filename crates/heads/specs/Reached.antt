@@ -1,5 +1,5 @@
 -- Where a multitrack command reaches, as the code has it.
-use Prim.Native.Nat.{ℕ}
+use Prim.Native.Nat.{ℕ, _<_}
 use mathlib.Core.List.{List}
 use Rattle.drive.specs.Step as Step
 use Rattle.position.specs.Standing.{driveOf, Standing}
@@ -10,12 +10,12 @@ use Rattle.heads.specs.declared.Reached.the-variants.{Reaches, NotFound,
 abbrev pub reachedOf : Reached → Step.Reached
 reachedOf (Reaches d) = Step.reaches (driveOf d)
 reachedOf NotFound = Step.fails Step.notFound
-reachedOf Protected = Step.fails Step.protected
+reachedOf (Protected d) = Step.fails (Step.protectedStep (d .at .head))
 reachedOf EndOfCylinder = Step.fails Step.endOfCylinder
 
--- the drive reached stands in the image
+-- the drive reached stands in the image, and the head of a protected step is not the last
 abbrev pub ReachedStands : List ℕ → Reached → Type 0
 ReachedStands image (Reaches d) = Standing image d
 ReachedStands image NotFound = Unit {0}
-ReachedStands image Protected = Unit {0}
+ReachedStands image (Protected d) = d .at .head < 18
 ReachedStands image EndOfCylinder = Unit {0}

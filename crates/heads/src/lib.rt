@@ -14,12 +14,12 @@ ghost use Rattle.position.specs.Standing.{driveOf, Standing};
 ghost use Rattle.heads.specs.Reached.{reachedOf, ReachedStands};
 ghost use Rattle.heads.specs.Heads.{trackAt, TrackEnds, PastZero};
 
-// What is searched or read is reached with a drive, or a unit check ends the command on the way there. The checks hold no value, so that the
-// compiler keeps each of the drive's numbers in one piece.
+// What is searched or read is reached with a drive, or a unit check ends the command on the way there. Of a protected step the drive before it is
+// told. The checks hold this or nothing, so that the compiler keeps each of the drive's numbers in one piece.
 pub enum Reached {
     Reaches(Drive),
     NotFound,
-    Protected,
+    Protected(Drive),
     EndOfCylinder,
 }
 
@@ -85,7 +85,7 @@ fn next_head(d: Drive, image: &[u8], end: usize) -> Reached
         return Reached::EndOfCylinder;
     }
     if barred {
-        return Reached::Protected;
+        return Reached::Protected(d);
     }
     Reached::Reaches(next_index(d, image, end))
 }

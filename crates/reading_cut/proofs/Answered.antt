@@ -46,6 +46,7 @@ pub told : (k : Cut) (first : ℕ) → first ≡ addressOf (k .first)
         byte0 = 0x08;
         byte1 = 0;
         byte2 = 0x40;
+        head = 0;
         format = 0x53;
         track = k .at;
         number = k .r;
@@ -62,7 +63,7 @@ pub told : (k : Cut) (first : ℕ) → first ≡ addressOf (k .first)
       user = Missing;
       tries = 0;
     })
-unfolding reportOf cutSense addressBytes Bytes.two Bytes.three Recovery.userTrack opt
+unfolding reportOf cutSense addressBytes Bytes.two Bytes.three Recovery.userTrack Recovery.reachedHead opt
 told k first e = λ st.
     let cut = cutOf k st in
     record {
@@ -71,6 +72,7 @@ told k first e = λ st.
         byte0 = refl;
         byte1 = refl;
         byte2 = refl;
+        head = refl;
         format = refl;
         track = track-is cut;
         number = number-is cut;

@@ -40,6 +40,7 @@ fn told_by(k: Cut) -> Told
         byte0: 0x08,
         byte1: 0,
         byte2: 0x40,
+        head: 0,
         format: 0x53,
         track: at,
         number: k.r as u8,

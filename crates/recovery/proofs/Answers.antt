@@ -76,8 +76,11 @@ module _ (P : Recovery → Type 0) (g : Given) (r : Report) (st : List ℕ) (ref
     track-by f h = either P _ (refuses _) (λ a. either P _ (refuses _) (h a))
 
     ten-by : P (Recovery.actionTen g r st)
-    unfolding Recovery.actionTen Recovery.seekRestart
-    ten-by = track-by _ (λ a c. both P _ (both P _ (next-by _ _ _ (λ to d. home-by _ _ _)) (refuses _)) (home-by _ _ _))
+    unfolding Recovery.actionTen Recovery.seekRestart Recovery.reachedRestart
+    ten-by =
+        track-by _
+        (λ a c.
+        both P _ (both P _ (next-by _ _ _ (λ to d. home-by _ _ _)) (refuses _)) (either P _ (refuses _) (λ b. home-by _ _ _)))
 
     tried-by : (n : ℕ) → P (Recovery.tried g r st n)
     unfolding Recovery.tried

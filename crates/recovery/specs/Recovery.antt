@@ -1,5 +1,6 @@
--- Recovery from one report (document 01, "Actions built" and "The questions"; document 02, multitrack reads).
-use Prim.Native.Nat.{ℕ, _+_, _-_}
+-- Recovery from one report (document 01, "Actions built" and "The questions"; document 02, multitrack reads and the
+-- head reached).
+use Prim.Native.Nat.{ℕ, _+_, _-_, _%_}
 use mathlib.Core.Bool.{Bool, true, false, _&&_, _||_, not}
 use mathlib.Core.Option.{Option, none, some}
 use mathlib.Core.List.{List, []}
@@ -137,9 +138,17 @@ agrees w l left wrong = eqb (w .address) (addressOf l + 8) && eqb (w .count) lef
 abbrev pub nextCylinder : Address → Address
 nextCylinder a = record { cylinder = a .cylinder + 1; head = 0 }
 
--- "the argument's track plus 1 (head 18 carries)"
+-- "then one is added, 18 carrying as before"
 unfoldable pub nextTrack : Address → Address
 nextTrack a = pick (eqb (a .head) 18) (nextCylinder a) (record { cylinder = a .cylinder; head = a .head + 1 })
+
+-- "the head from sense byte 6, bits 3 to 7"
+unfoldable pub reachedHead : (sense : List ℕ) → ℕ
+reachedHead sense = getD sense 6 0 % 32
+
+-- "For 10A the cylinder comes from the user's argument and the head from sense byte 6"; "A head above 18 there means that report and chain disagree"
+unfoldable pub reachedTrack : (sense : List ℕ) → Address → Option Address
+reachedTrack sense a = pick (leb (reachedHead sense) 18) (some (record { cylinder = a .cylinder; head = reachedHead sense })) none
 
 -- "If that CCW is a seek"
 unfoldable pub isSeek : Command → Bool
@@ -229,11 +238,13 @@ module _ (g : Given) (r : Report) (st : List ℕ) where
       (onNext (resolve (onlyChain (g .chain)) (Chain (r .csw .address - 8)) (Chain (r .csw .address))) (refused Question.Agreement) (λ to d. homeRestart ten a to))
       (refused Question.Agreement)
 
-  -- "Otherwise 10A: the argument's track plus 1 .., TIC to the interrupted CCW."
+  -- 10A: "the argument's track plus 1 .., TIC to the interrupted CCW", the argument's head being the one reached; "number 9"
+  unfoldable pub reachedRestart : Address → Recovery
+  reachedRestart a = opt (reachedTrack (r .sense) a) (refused Question.Agreement) (λ b. homeRestart tenA (nextTrack b) (r .csw .address - 8))
+
+  -- "If that CCW is a seek: .. Otherwise 10A"
   unfoldable pub actionTen : Recovery
-  actionTen =
-      withTrack
-      (λ a c. pick (isSeek (commandOf (c .command))) (seekRestart a c) (homeRestart tenA (nextTrack a) (r .csw .address - 8)))
+  actionTen = withTrack (λ a c. pick (isSeek (commandOf (c .command))) (seekRestart a c) (reachedRestart a))
 
   -- ---- the action
 

@@ -10,7 +10,7 @@ use Rattle.address.specs.declared.Address.{Address}
 use Rattle.address.specs.Order.{lastCylinder, onPack}
 use Rattle.location.specs.Low.{CswLow}
 use Rattle.recovery.specs.Report.{Report}
-use Rattle.recovery.specs.Recovery.{userTrack, cutTrack, restartDisplacement, errorDisplacement}
+use Rattle.recovery.specs.Recovery.{userTrack, reachedHead, cutTrack, restartDisplacement, errorDisplacement}
 use Rattle.report.specs.declared.Seek.{Seek}
 use Rattle.report.specs.declared.User.{User}
 use Rattle.report.specs.declared.User.the-variants.{Track, Missing}
@@ -46,6 +46,7 @@ pub record SenseTells (s : List ℕ) (t : Sense) : Type 0 where
   pub byte0 : getD s 0 0 ≡ t .byte0
   pub byte1 : getD s 1 0 ≡ t .byte1
   pub byte2 : getD s 2 0 ≡ t .byte2
+  pub head : reachedHead s ≡ t .head
   pub format : getD s 7 0 ≡ t .format
   pub track : cutTrack s ≡ t .track
   pub number : getD s 12 0 ≡ t .number

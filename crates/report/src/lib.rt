@@ -7,7 +7,7 @@ use drive::FileMask;
 use fields::Wanted;
 use questions::Question;
 ghost use mathlib.Core.Path.{_≡_};
-ghost use Prim.Native.Nat.{_+_, _<_, _≤_};
+ghost use Prim.Native.Nat.{_+_, _%_, _<_, _≤_};
 ghost use lib.ListN.{length};
 ghost use Rattle.base.specs.Bytes.{part};
 ghost use Rattle.drive.specs.declared.FileMask.the-variants.{Unset};
@@ -168,12 +168,14 @@ pub fn read(report: &[u8]) -> Reported
 
 // ---- what it tells recovery
 
-// What recovery reads in the 24 sense bytes: bytes 0 to 2, by which the error table chooses; byte 7, format and message; the track
-// in 8 to 11, the record's number in 12, its sector in 13; restart displacement, error displacement and pattern from 15 on.
+// What recovery reads in the 24 sense bytes: bytes 0 to 2, by which the error table chooses; the head reached in byte 6; byte 7, format
+// and message; the track in 8 to 11, the record's number in 12, its sector in 13; restart displacement, error displacement and pattern
+// from 15 on.
 pub struct Sense {
     pub track: Address,
     pub restart: FromFront,
     pub error: FromEnd,
+    pub head: usize,
     pub byte0: u8,
     pub byte1: u8,
     pub byte2: u8,
@@ -232,6 +234,13 @@ fn user_of(report: &[u8], seek: Seek) -> User
     }
 }
 
+// The head that the drive stood on: bits 3 to 7 of sense byte 6.
+pub fn reached_head(byte6: u8) -> usize
+    ensures { λ r. ⌜ r ≡ byte6 % 32 ⌝ }
+{
+    base::wide(byte6 & 0x1f)
+}
+
 // The 24 sense bytes.
 fn sense_of(sense: &[u8]) -> Sense
     requires { ⌜ length (now sense) ≡ 24 ⌝ }
@@ -241,6 +250,7 @@ fn sense_of(sense: &[u8]) -> Sense
         byte0: sense[0],
         byte1: sense[1],
         byte2: sense[2],
+        head: reached_head(sense[6]),
         format: sense[7],
         track: Address {
             cylinder: base::be16(sense, 8),

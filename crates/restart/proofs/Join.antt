@@ -177,7 +177,7 @@ before-index t j h = by (eqb j 0) refl
 module _ (pack : List Track) (m : FileMask) where
   step-alike : (a : Address) (j : ℕ) → Alike (Step.stepped (placed a m j true)) (Step.stepped (placed a m j false))
   unfolding Drive.atIndex Step.stepped Step.nextHead
-  step-alike a j = both (λ r. Alike r r) _ (both (λ r. Alike r r) _ (checks Step.protected) (places _ m 0 false false)) (checks Step.endOfCylinder)
+  step-alike a j = both (λ r. Alike r r) _ (both (λ r. Alike r r) _ (checks (Step.protectedStep _)) (places _ m 0 false false)) (checks Step.endOfCylinder)
 
   search-alike : (a : Address) (j : ℕ) → Alike (Step.searchFrom pack (placed a m j true)) (Step.searchFrom pack (placed a m j false))
   unfolding opt pick Step.searchFrom
@@ -201,7 +201,7 @@ module _ (pack : List Track) (m : FileMask) where
           split (Drive.passesIndex (length (t .records)) (Drive.pastZero j))
           (λ e.
           split (ltb (a .head) 18)
-          (λ h. split (Step.protectsStep m) (λ g. ends Step.protected (λ p. rw (q, e, h, g))) (λ g. further e h g later))
+          (λ h. split (Step.protectsStep m) (λ g. ends (Step.protectedStep (a .head)) (λ p. rw (q, e, h, g))) (λ g. further e h g later))
           (λ h. ends Step.endOfCylinder (λ p. rw (q, e, h))))
           (λ e. finds (record {
             at = a;

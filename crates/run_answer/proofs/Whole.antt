@@ -19,7 +19,7 @@ use Rattle.drive.specs.Drive.{addressBytes}
 use Rattle.drive.specs.Step as Step
 use Rattle.command.specs.declared.Check.the-variants.{Rejected, NotFound, Protected, EndOfCylinder}
 use Rattle.command.specs.declared.Status.{Status}
-use Rattle.command.specs.declared.Status.the-variants.{Quiet, Refused}
+use Rattle.command.specs.declared.Status.the-variants.{Quiet, Refused, ProtectedStep}
 use Rattle.command.specs.declared.End.{End}
 use Rattle.command.specs.declared.Cut.{Cut}
 use Rattle.command.specs.Answer.{senseOf, cutOf}
@@ -38,6 +38,7 @@ status-length (Refused Rejected) = refl
 status-length (Refused NotFound) = refl
 status-length (Refused Protected) = refl
 status-length (Refused EndOfCylinder) = refl
+status-length (ProtectedStep head) = refl
 
 pub cut-length : (k : Cut) → length (Step.cutSense (cutOf k [])) ≡ 24
 unfolding Step.cutSense addressBytes three two

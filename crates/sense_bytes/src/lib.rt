@@ -13,21 +13,21 @@ ghost use Rattle.base.specs.Choice.{pick};
 ghost use Rattle.drive.specs.Step as Step;
 ghost use Rattle.command.specs.Answer.{senseOf, cutOf, CutLow};
 
-// 24 sense bytes of which only the first two are not 0.
-fn put_check(to: &mut [u8], first: u8, second: u8)
+// 24 sense bytes of which only 0, 1 and 6 are not 0.
+fn put_check(to: &mut [u8], byte0: u8, byte1: u8, byte6: u8)
     requires { ⌜ 24 ≤ length (now to) ⌝ }
-    ensures { λ _. ⌜ now (to .exit) ≡ (first ∷ second ∷ replicate 22 0) ++ drop 24 (now (to .entry)) ⌝ }
+    ensures { λ _. ⌜ now (to .exit) ≡ (byte0 ∷ byte1 ∷ 0 ∷ 0 ∷ 0 ∷ 0 ∷ byte6 ∷ replicate 17 0) ++ drop 24 (now (to .entry)) ⌝ }
 {
     copy::put(
         to,
         &[
-            first,
-            second,
+            byte0,
+            byte1,
             0,
             0,
             0,
             0,
-            0,
+            byte6,
             0,
             0,
             0,
@@ -55,13 +55,14 @@ pub fn put_status(to: &mut [u8], s: Status)
     ensures { λ _. ⌜ now (to .exit) ≡ senseOf s ++ drop 24 (now (to .entry)) ⌝ }
 {
     match s {
-        Status::Quiet => put_check(to, 0, 0),
+        Status::Quiet => put_check(to, 0, 0, 0),
         Status::Refused(k) => match k {
-            Check::Rejected => put_check(to, 0x80, 0),
-            Check::NotFound => put_check(to, 0, 0x08),
-            Check::Protected => put_check(to, 0, 0x04),
-            Check::EndOfCylinder => put_check(to, 0, 0x20),
+            Check::Rejected => put_check(to, 0x80, 0, 0),
+            Check::NotFound => put_check(to, 0, 0x08, 0),
+            Check::Protected => put_check(to, 0, 0x04, 0),
+            Check::EndOfCylinder => put_check(to, 0, 0x20, 0),
         },
+        Status::ProtectedStep(head) => put_check(to, 0, 0x04, head),
     }
 }
 

@@ -3,7 +3,7 @@
 use crate::generate::{self, written};
 use crate::random::Random;
 use crate::simulator::encode::{put_home_address, put_record};
-use crate::simulator::pack::{Pack, TrackAddress, LONGEST_RECORD};
+use crate::simulator::pack::{Pack, TrackAddress, LAST_HEAD, LONGEST_RECORD};
 use crate::simulator::LAST_CYLINDER;
 
 pub struct Ground {
@@ -70,6 +70,27 @@ impl Ground {
         Ground::of(random, storage, image, is_multitrack)
     }
 
+    /// Runs of adjacent heads anywhere on some cylinders, many of them with R0 alone; no faults.
+    pub fn of_heads(random: &mut Random) -> Ground {
+        let mut image = Vec::new();
+        for cylinder in [0, 1, 257, LAST_CYLINDER] {
+            let is_last_chance = image.is_empty() && cylinder == LAST_CYLINDER;
+            if is_last_chance || random.once_in(2) {
+                let first = random.within(0..=LAST_HEAD.into());
+                let heads = random.within(2..=12);
+                let tracks = (first..first + heads).map(|head| at(cylinder, head as u16));
+                let tracks: Vec<_> = tracks.filter(|track| track.head <= LAST_HEAD).collect();
+                put_few_records(random, &mut image, &tracks);
+            }
+        }
+        Ground {
+            faults: Vec::new(),
+            storage: storage(random),
+            is_multitrack: true,
+            image,
+        }
+    }
+
     fn of(random: &mut Random, storage: usize, image: Vec<u8>, is_multitrack: bool) -> Ground {
         let pack = generate::decoded(&image);
         let faults = if random.once_in(2) {
@@ -126,21 +147,24 @@ fn image(random: &mut Random, put_track: PutTrack) -> Vec<u8> {
     image
 }
 
-/// Few records on each head, now and then R0 alone, now and then a hole.
 fn adjacent_heads(random: &mut Random) -> Vec<u8> {
     let mut image = Vec::new();
     for (tracks, once_in) in HEADS {
-        if !random.once_in(once_in) {
-            continue;
-        }
-        for track in tracks {
-            if !random.once_in(10) {
-                let others = random.pick(&[0, 0, 1, 1, 2, 2, 3]);
-                put_records(random, &mut image, track, others);
-            }
+        if random.once_in(once_in) {
+            put_few_records(random, &mut image, &tracks);
         }
     }
     image
+}
+
+/// Few records on each head, now and then R0 alone, now and then a hole.
+fn put_few_records(random: &mut Random, image: &mut Vec<u8>, tracks: &[TrackAddress]) {
+    for &track in tracks {
+        if !random.once_in(10) {
+            let others = random.pick(&[0, 0, 1, 1, 2, 2, 3]);
+            put_records(random, image, track, others);
+        }
+    }
 }
 
 fn put_track(random: &mut Random, image: &mut Vec<u8>, track: TrackAddress) {

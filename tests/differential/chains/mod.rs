@@ -5,7 +5,7 @@ mod change;
 mod cut;
 mod ground;
 mod plan;
-mod restart;
+pub mod restart;
 mod scatter;
 pub mod steps;
 
@@ -14,6 +14,7 @@ pub use crate::simulator::held::{HeldRestart as GeneratedRestart, HeldRun as Gen
 pub use change::{changed, changed_ccw, refused};
 pub use cut::{cut, cut_again, cut_long};
 use ground::Ground;
+pub use plan::forbidden::{forbidden_steps, ForbiddenSteps};
 pub use plan::{planned, planned_long, planned_loop, planned_reads};
 pub use scatter::{multitrack_commands, random_bytes, random_ccws, COMMANDS};
 

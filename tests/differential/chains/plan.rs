@@ -1,5 +1,7 @@
 //! Chains that seek, search and read as a program would, many of them to their end.
 
+pub mod forbidden;
+
 use super::ground::{any_track, Ground};
 use super::GeneratedRun;
 use crate::random::Random;
@@ -110,10 +112,14 @@ struct Plan<'a, 'r> {
     /// Bytes of storage.
     storage: usize,
     is_multitrack: bool,
+    /// Of three codes that have a multitrack form on multitrack ground, so many take it.
+    multitrack_of_three: usize,
     chain: Vec<u8>,
     arguments: Vec<u8>,
     drive: Drive<'a>,
     mask_set: bool,
+    /// Whether no seek may follow.
+    stays: bool,
 }
 
 impl<'a, 'r> Plan<'a, 'r> {
@@ -128,10 +134,12 @@ impl<'a, 'r> Plan<'a, 'r> {
             pack,
             storage: ground.storage,
             is_multitrack: ground.is_multitrack,
+            multitrack_of_three: 1,
             chain: Vec::new(),
             arguments: Vec::new(),
             drive: Drive::new(pack, no_faults, LAST_CYLINDER),
             mask_set: false,
+            stays: false,
         }
     }
 
@@ -145,10 +153,13 @@ impl<'a, 'r> Plan<'a, 'r> {
         self.chain.extend(ccw);
     }
 
-    /// A code, or once in three on multitrack ground its multitrack form where it has one.
+    /// A code, or on multitrack ground its multitrack form where it has one.
     fn any_form(&mut self, command: u8) -> u8 {
         let multitrack = command | 0x80;
-        if self.is_multitrack && is_multitrack(multitrack) && self.random.once_in(3) {
+        if self.is_multitrack
+            && is_multitrack(multitrack)
+            && self.random.below(3) < self.multitrack_of_three
+        {
             multitrack
         } else {
             command
@@ -215,7 +226,7 @@ impl<'a, 'r> Plan<'a, 'r> {
 
     fn seek(&mut self) {
         let mask = self.drive.mask().unwrap_or(0);
-        if mask & MASK_SEEK_INHIBITED != 0 && !self.random.once_in(8) {
+        if self.stays || mask & MASK_SEEK_INHIBITED != 0 && !self.random.once_in(8) {
             return self.no_operation();
         }
         let tracks: Vec<TrackAddress> = self.pack.tracks().map(|(track, _)| track).collect();

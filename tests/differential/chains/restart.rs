@@ -6,6 +6,8 @@ use super::{GeneratedRestart, GeneratedRun};
 use crate::generate::decoded;
 use crate::random::Random;
 use crate::simulator::channel::{Ccw, CCW_LENGTH, FLAG_CHAIN_COMMAND};
+use crate::simulator::drive::NO_OPERATION;
+use crate::simulator::encode;
 use crate::simulator::interrupted::next_command;
 use crate::simulator::pack::TrackAddress;
 use crate::simulator::restart::{behind_record, from_home_address, BuiltRestart};
@@ -48,6 +50,17 @@ impl From<BuiltRestart> for GeneratedRestart {
             program: built.program.to_vec(),
             arguments: built.arguments.to_vec(),
         }
+    }
+}
+
+/// One that does nothing but go to the chain's first CCW.
+pub fn to_the_first_ccw() -> GeneratedRestart {
+    let mut program = encode::ccw(NO_OPERATION, 0, FLAG_CHAIN_COMMAND, 1).to_vec();
+    program.extend(encode::ccw(0x08, 0, 0, 0));
+    program.resize(64, 0);
+    GeneratedRestart {
+        program,
+        arguments: vec![0; 16],
     }
 }
 

@@ -1,13 +1,13 @@
 //! Chains that go from step to step on small tracks, whatever comes of a search.
 
-use super::{limit, GeneratedRun};
+use super::{limit, ForbiddenSteps, GeneratedRun};
 use crate::random::Random;
 use crate::simulator::channel::{CCW_LENGTH, FLAG_CHAIN_COMMAND, FLAG_SKIP, FLAG_SUPPRESS_LENGTH};
 use crate::simulator::drive::{
-    Operand, NO_OPERATION, READ_COUNT, READ_COUNT_KEY_DATA, READ_COUNT_KEY_DATA_MULTITRACK,
-    READ_COUNT_MULTITRACK, READ_DATA, READ_DATA_MULTITRACK, READ_HOME_ADDRESS, READ_KEY_DATA,
-    READ_KEY_DATA_MULTITRACK, SEARCH_ID_EQUAL, SEARCH_ID_EQUAL_MULTITRACK, SEEK, SET_FILE_MASK,
-    SET_SECTOR,
+    Operand, MASK_SEEK_INHIBITED, NO_OPERATION, READ_COUNT, READ_COUNT_KEY_DATA,
+    READ_COUNT_KEY_DATA_MULTITRACK, READ_COUNT_MULTITRACK, READ_DATA, READ_DATA_MULTITRACK,
+    READ_HOME_ADDRESS, READ_KEY_DATA, READ_KEY_DATA_MULTITRACK, SEARCH_ID_EQUAL,
+    SEARCH_ID_EQUAL_MULTITRACK, SEEK, SET_FILE_MASK, SET_SECTOR,
 };
 use crate::simulator::encode;
 use crate::simulator::large::track_at;
@@ -113,10 +113,34 @@ pub fn random_steps(random: &mut Random) -> GeneratedRun {
 /// The steps over adjacent tracks with R0 and so many records each, then a read count that shows where
 /// the drive is. Each read has storage of its own.
 pub fn stepped(first: usize, records: &[u8], steps: &[Step]) -> GeneratedRun {
-    let mut chain = Vec::new();
-    if first > 0 {
-        chain.extend(encode::ccw(SEEK, 0, FLAG_CHAIN_COMMAND, 6));
+    let seek = encode::ccw(SEEK, 0, FLAG_CHAIN_COMMAND, 6);
+    let front = if first > 0 { &seek[..] } else { &[] };
+    stepped_behind(front, first, records, steps)
+}
+
+/// The same under a mask that forbids steps to the next head.
+pub fn forbidden(first: usize, records: &[u8], steps: &[Step]) -> ForbiddenSteps {
+    let mask = place_of_id(records.len() + 1, 0);
+    let front = [
+        encode::ccw(SEEK, 0, FLAG_CHAIN_COMMAND, 6),
+        encode::ccw(SET_FILE_MASK, mask, FLAG_CHAIN_COMMAND, 1),
+    ];
+    let mut run = stepped_behind(front.as_flattened(), first, records, steps);
+    run.arguments.push(MASK_SEEK_INHIBITED);
+    ForbiddenSteps {
+        run,
+        sought: track_at(first),
+        mask,
     }
+}
+
+/// Place in the arguments of the ID of an R of the first track, or of one behind it.
+fn place_of_id(track: usize, number: u8) -> usize {
+    IDS + 5 * (track * usize::from(NO_RECORD + 1) + usize::from(number))
+}
+
+fn stepped_behind(front: &[u8], first: usize, records: &[u8], steps: &[Step]) -> GeneratedRun {
+    let mut chain = front.to_vec();
     let mut storage = 0;
     let last = Step::Command(READ_COUNT);
     for (step, chained) in steps
@@ -126,8 +150,7 @@ pub fn stepped(first: usize, records: &[u8], steps: &[Step]) -> GeneratedRun {
     {
         chain.extend(match step {
             Step::Search(command, track, number) => {
-                let place = track * usize::from(NO_RECORD + 1) + usize::from(number);
-                encode::ccw(command, IDS + 5 * place, chained, 5)
+                encode::ccw(command, place_of_id(track, number), chained, 5)
             }
             Step::Command(command) if Operand::of(command) == Operand::Storage => {
                 storage += ROOM;
@@ -209,6 +232,17 @@ mod tests {
         assert_eq!(run.storage[ROOM..ROOM + 3], [0xD0, 0xD0, 0xEE]);
         assert_eq!(run.storage[2 * ROOM..2 * ROOM + 5], [0, 0, 0, 18, 1]);
         assert_eq!(run.storage[3 * ROOM + 4], 2);
+    }
+
+    #[test]
+    fn the_mask_forbids_the_first_step() {
+        let over = [Step::Command(READ_COUNT_MULTITRACK)].repeat(2);
+        let mut chain = forbidden(16, &[1, 0, 3], &over);
+        let outcome = chain.allowed().simulated().unwrap();
+        assert_eq!((outcome.end, outcome.mask), (End::Chain, Some(0)));
+        let outcome = chain.run.simulated().unwrap();
+        assert_eq!(outcome.mask, Some(MASK_SEEK_INHIBITED));
+        assert_eq!((outcome.sense[1], outcome.sense[6]), (0x04, 16));
     }
 
     #[test]

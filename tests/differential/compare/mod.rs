@@ -1,5 +1,6 @@
 //! One input given to library and simulator.
 
+mod protected_steps;
 mod reading;
 mod recovery;
 mod run;

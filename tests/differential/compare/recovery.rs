@@ -26,7 +26,7 @@ const STORAGE: usize = 3;
 const ANSWER: usize = 6;
 
 type RecoveryArena = Arena<7>;
-type RecoveryLeft = Left<7>;
+pub(super) type RecoveryLeft = Left<7>;
 
 impl Comparison {
     /// Compares the answer, all areas and the bytes around them.
@@ -35,12 +35,22 @@ impl Comparison {
         kind: &'static str,
         recovery: &GeneratedRecovery,
     ) -> Result<(), Disagreement> {
+        self.recovery_compared(kind, recovery).map(|_| ())
+    }
+
+    /// The same, and what the library left. No answer where it is refused.
+    pub(super) fn recovery_compared(
+        &mut self,
+        kind: &'static str,
+        recovery: &GeneratedRecovery,
+    ) -> Result<(RecoveryLeft, Option<Answer>), Disagreement> {
         let lent = lend(&mut Random::new(self.tally.compared), recovery);
+        let (by_simulator, answer) = self.recovered_by_simulator(recovery, lent.clone());
         let sides = Sides {
             names: &NAMES,
             limit: None,
             by_library: by_library(lent.clone()),
-            by_simulator: self.recovered_by_simulator(recovery, lent.clone()),
+            by_simulator,
             lent,
         };
         let wrong = match sides.agree() {
@@ -51,19 +61,19 @@ impl Comparison {
             return Err(sides.told(RECOVER, kind, wrong, self.tally.compared));
         }
         self.tally.count(RECOVER, kind, sides.by_simulator.number);
-        Ok(())
+        Ok((sides.by_library, answer))
     }
 
     fn recovered_by_simulator(
         &mut self,
         recovery: &GeneratedRecovery,
         mut arena: RecoveryArena,
-    ) -> RecoveryLeft {
+    ) -> (RecoveryLeft, Option<Answer>) {
         let [chain, report, extent, storage, program, restart_arguments, answer] = arena.lent();
         if answer.len() != RECOVERY_ANSWER {
             let mark = RecoveryMark::AnswerArea(answer.len());
             self.tally.count_recovery_marks([mark]);
-            return Left { number: 1, arena };
+            return (Left { number: 1, arena }, None);
         }
         let lent = Lent {
             chain,
@@ -79,14 +89,14 @@ impl Comparison {
         let changed = in_place::changed(&recovery.storage, storage);
         let marks = marks_of(recovery, &recovered, changed);
         self.tally.count_recovery_marks(marks);
-        let number = match recovered {
+        let (number, answered) = match recovered {
             Ok(recovered) => {
                 answer.copy_from_slice(&written(&recovered.answer));
-                library::ANSWERED
+                (library::ANSWERED, Some(recovered.answer))
             }
-            Err(refusal) => refusal.number(),
+            Err(refusal) => (refusal.number(), None),
         };
-        Left { number, arena }
+        (Left { number, arena }, answered)
     }
 }
 

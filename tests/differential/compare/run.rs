@@ -37,17 +37,29 @@ impl Comparison {
         mut run: GeneratedRun,
         answer_length: usize,
     ) -> Result<(), Disagreement> {
+        self.run_compared(kind, &mut run, answer_length).map(|_| ())
+    }
+
+    /// The same; storage is left as the run leaves it. No outcome where it is refused.
+    pub(super) fn run_compared(
+        &mut self,
+        kind: &'static str,
+        run: &mut GeneratedRun,
+        answer_length: usize,
+    ) -> Result<Option<Outcome>, Disagreement> {
         let call = match run.restart {
             None => RUN,
             Some(_) => RUN_RESTART,
         };
-        let lent = lend(&mut Random::new(self.tally.compared), &run, answer_length);
+        let lent = lend(&mut Random::new(self.tally.compared), run, answer_length);
         let mut marks = Marks::default();
+        let by_library = by_library(run, lent.clone());
+        let (by_simulator, outcome) = self.by_simulator(run, lent.clone(), &mut marks);
         let sides = Sides {
             names: &NAMES,
             limit: (call == RUN).then_some(run.limit),
-            by_library: by_library(&run, lent.clone()),
-            by_simulator: self.by_simulator(&mut run, lent.clone(), &mut marks),
+            by_library,
+            by_simulator,
             lent,
         };
         if !sides.agree() {
@@ -55,7 +67,7 @@ impl Comparison {
         }
         self.tally.count(call, kind, sides.by_simulator.number);
         self.tally.count_marks(call, marks);
-        Ok(())
+        Ok(outcome)
     }
 
     fn by_simulator(
@@ -63,28 +75,29 @@ impl Comparison {
         run: &mut GeneratedRun,
         mut arena: RunArena,
         marks: &mut Marks,
-    ) -> RunLeft {
+    ) -> (RunLeft, Option<Outcome>) {
         let [.., storage, _, _, answer] = arena.lent();
         if answer.len() != ANSWER {
             marks.see(Mark::AnswerArea(answer.len()));
-            return Left { number: 1, arena };
+            return (Left { number: 1, arena }, None);
         }
-        let number = match run.watched(marks) {
+        let ran = run.watched(marks);
+        let number = match &ran {
             Ok(outcome) => {
-                marks.see_end(&outcome);
+                marks.see_end(outcome);
                 storage.copy_from_slice(&run.storage);
-                answer.copy_from_slice(&written(&outcome));
+                answer.copy_from_slice(&written(outcome));
                 match outcome.end {
                     End::Limit => LIMIT,
                     _ => ENDED,
                 }
             }
             Err(refusal) => {
-                self.tally.count_rule(refusal);
+                self.tally.count_rule(*refusal);
                 refusal.number()
             }
         };
-        Left { number, arena }
+        (Left { number, arena }, ran.ok())
     }
 }
 

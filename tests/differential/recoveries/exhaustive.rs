@@ -6,7 +6,7 @@ use crate::reports::GeneratedRecovery;
 use crate::simulator::encode;
 use crate::simulator::extent::WHOLE_PACK;
 use crate::simulator::large::track_at;
-use crate::simulator::pack::LAST_HEAD;
+use crate::simulator::pack::{TrackAddress, LAST_HEAD};
 use crate::simulator::report::Report;
 use crate::simulator::table::TABLE;
 use crate::simulator::{sample, LAST_CYLINDER};
@@ -26,6 +26,7 @@ pub fn compare_all(comparison: &mut Comparison) -> Result<(), Disagreement> {
     each_mask(comparison)?;
     each_tries(comparison)?;
     each_track(comparison)?;
+    each_sense_6(comparison)?;
     each_command_behind(comparison)?;
     each_place(comparison)
 }
@@ -152,8 +153,8 @@ fn each_tries(comparison: &mut Comparison) -> Result<(), Disagreement> {
     Ok(())
 }
 
-/// Each track of the pack, and some behind it, in tag 14 and in the sense; every third in an extent
-/// that ends with it.
+/// Each track of the pack, and some behind it, in tag 14 and in the sense, its head in sense 6 too;
+/// every third in an extent that ends with it.
 fn each_track(comparison: &mut Comparison) -> Result<(), Disagreement> {
     let heads = usize::from(LAST_HEAD) + 1;
     for place in 0..(usize::from(LAST_CYLINDER) + 2) * heads {
@@ -170,8 +171,33 @@ fn each_track(comparison: &mut Comparison) -> Result<(), Disagreement> {
         ] {
             report.sense[8..12].copy_from_slice(&address);
             let [c0, c1, h0, h1] = address;
+            report.sense[6] = h1;
             report.seek_argument = Some([0, 0, c0, c1, h0, h1]);
             comparison.recovery("each track", &recovery(&report, &extent))?;
+        }
+    }
+    Ok(())
+}
+
+/// Each value of sense 6 with heads of tag 14 that differ from it, on the first cylinder and at the end of
+/// the pack, for each action that asks for tag 14.
+fn each_sense_6(comparison: &mut Comparison) -> Result<(), Disagreement> {
+    let tracks = [0, LAST_CYLINDER - 1, LAST_CYLINDER].map(|cylinder| {
+        let heads = [0, 1, LAST_HEAD - 1, LAST_HEAD, LAST_HEAD + 1];
+        heads.map(|head| TrackAddress { cylinder, head })
+    });
+    for mut report in [
+        sent_to([0, 0x20, 0], 0x20),
+        sent_to([0, 0x04, 0], 0x08),
+        sent_to([0, 0x04, 0], 0x20),
+    ] {
+        for &track in tracks.as_flattened() {
+            let [c0, c1, h0, h1] = encode::track_address(track);
+            report.seek_argument = Some([0, 0, c0, c1, h0, h1]);
+            for sense_6 in 0..=255 {
+                report.sense[6] = sense_6;
+                comparison.recovery("each sense 6", &recovery(&report, &WHOLE_PACK))?;
+            }
         }
     }
     Ok(())

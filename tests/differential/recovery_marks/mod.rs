@@ -102,8 +102,20 @@ rules! {
         CorrectedOnlyWithoutCc,
         CorrectedOnlyWithoutNext,
         CorrectedOnlyOutsideTheExtent,
-        // By action 10A.
+        // By action 10A. Where it differs, by what the head of tag 14 would give.
         HeadCarried,
+        AnotherTrackThanSought,
+        CarriedThoughSoughtLower,
+        NotCarriedThoughSoughtLast,
+        OffThePackByHeadReached,
+        OutsideTheExtentByHeadReached,
+        InTheExtentByHeadReached,
+        HighBitsOfSense6NotAsked,
+        // Nothing else is wrong with the report.
+        HeadSoughtOffThePackIn10A,
+        // Actions 8 and 10 do not ask for the head reached.
+        HeadAboveLastIn8,
+        HeadAboveLastIn10,
         // Actions 8 and 10 make nothing of bit 7.
         PciFetchModeSetAgain,
         // Tries at which action 4 ends, and one less.

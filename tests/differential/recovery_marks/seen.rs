@@ -7,9 +7,9 @@ use crate::simulator::correct::Fate;
 use crate::simulator::cut::CutRead;
 use crate::simulator::drive::LAST_SECTOR;
 use crate::simulator::extent::Extent;
-use crate::simulator::interrupted::next_command;
+use crate::simulator::interrupted::{next_command, next_track, Interrupted, InterruptedRule};
 use crate::simulator::pack::{TrackAddress, LAST_HEAD};
-use crate::simulator::recovery::{Answer, Recovered, RestartAction};
+use crate::simulator::recovery::{Answer, NotBuilt, Recovered, RestartAction};
 use crate::simulator::report::Report;
 use crate::simulator::restart::read_count_before;
 use crate::simulator::table::{row_of, Action, TABLE};
@@ -69,6 +69,13 @@ impl Marks {
         if let Some(row) = row.filter(|_| number > 6) {
             self.see(RecoveryMark::Row(row));
         }
+        let off_the_pack = Refusal::Interrupted(InterruptedRule::SeekOffThePack);
+        if refusal == off_the_pack && action == Some(Action::Ten) {
+            self.meet_if(
+                is_10a_by_another_head(recovery),
+                RecoveryEvent::HeadSoughtOffThePackIn10A,
+            );
+        }
     }
 
     fn answered(&mut self, recovery: &GeneratedRecovery, report: &Report, recovered: &Recovered) {
@@ -79,6 +86,7 @@ impl Marks {
         if let Answer::Restart(action) = recovered.answer {
             self.restarted(report, action);
         }
+        self.went_by_heads(recovery, report, kind);
         let tried = |tries| action == Action::Four && report.tries == tries;
         self.meet_if(tried(10), RecoveryEvent::TenTries);
         self.meet_if(tried(9), RecoveryEvent::NineTries);
@@ -100,11 +108,54 @@ impl Marks {
             report.is_pci_fetch_mode(),
             RecoveryEvent::PciFetchModeSetAgain,
         );
-        let head = report.seek_argument.map(|argument| argument[5]);
-        self.meet_if(
-            action == RestartAction::TenA && head == Some(LAST_HEAD as u8),
-            RecoveryEvent::HeadCarried,
-        );
+    }
+
+    /// By the head sought, of tag 14, and by the head reached, of sense 6.
+    fn went_by_heads(&mut self, recovery: &GeneratedRecovery, report: &Report, kind: AnswerKind) {
+        let Some(argument) = report.seek_argument else {
+            return;
+        };
+        let sought = TrackAddress::decode(&argument[2..]);
+        let head = report.head_reached();
+        let above = head > LAST_HEAD;
+        match kind {
+            AnswerKind::Restart(RestartAction::Eight) => {
+                self.meet_if(above, RecoveryEvent::HeadAboveLastIn8);
+            }
+            AnswerKind::Restart(RestartAction::Ten) => {
+                self.meet_if(above, RecoveryEvent::HeadAboveLastIn10);
+            }
+            AnswerKind::Restart(RestartAction::TenA) => {
+                let carried = head == LAST_HEAD;
+                let sought_last = sought.head == LAST_HEAD;
+                let high_bits = report.sense[6] != head as u8;
+                let differs = head != sought.head;
+                let outside = is_outside(recovery, next_track(sought));
+                self.meet_if(carried, RecoveryEvent::HeadCarried);
+                self.meet_if(high_bits, RecoveryEvent::HighBitsOfSense6NotAsked);
+                self.meet_if(differs, RecoveryEvent::AnotherTrackThanSought);
+                self.meet_if(
+                    carried && !sought_last,
+                    RecoveryEvent::CarriedThoughSoughtLower,
+                );
+                self.meet_if(
+                    !carried && sought_last,
+                    RecoveryEvent::NotCarriedThoughSoughtLast,
+                );
+                self.meet_if(outside, RecoveryEvent::InTheExtentByHeadReached);
+            }
+            AnswerKind::NotBuilt(RestartAction::TenA, why) => {
+                let inside = !is_outside(recovery, next_track(sought));
+                self.meet_if(
+                    inside,
+                    match why {
+                        NotBuilt::OffThePack => RecoveryEvent::OffThePackByHeadReached,
+                        NotBuilt::OutsideTheExtent => RecoveryEvent::OutsideTheExtentByHeadReached,
+                    },
+                );
+            }
+            _ => (),
+        }
     }
 
     fn walked(&mut self, report: &Report, read: &CutRead) {
@@ -139,9 +190,7 @@ impl Marks {
         let length = read.end.is_incorrect_length();
         let no_cc = !read.end.ccw.has(FLAG_CHAIN_COMMAND);
         let next = next_command(&recovery.chain, read.end.ccw.behind());
-        let track = TrackAddress::decode(&report.sense[8..12]);
-        let extent = Extent::decode(&recovery.extent, LAST_CYLINDER);
-        let outside = extent.is_ok_and(|extent| !extent.contains(track));
+        let outside = is_outside(recovery, TrackAddress::decode(&report.sense[8..12]));
         match kind {
             AnswerKind::CorrectedOnly => {
                 self.meet_if(length, RecoveryEvent::CorrectedOnlyWithLength);
@@ -164,6 +213,22 @@ impl Marks {
             }
         }
     }
+}
+
+/// Of a recovery whose extent is well formed; a track off the pack is outside too.
+fn is_outside(recovery: &GeneratedRecovery, track: TrackAddress) -> bool {
+    let extent = Extent::decode(&recovery.extent, LAST_CYLINDER);
+    extent.is_ok_and(|extent| !extent.contains(track))
+}
+
+/// Whether 10A would be built, or answered by action 2, if tag 14's head were 0.
+fn is_10a_by_another_head(recovery: &GeneratedRecovery) -> bool {
+    let mut report = Report::decode(&recovery.report).expect("question 4 was answered yes");
+    if let Some([.., h0, h1]) = &mut report.seek_argument {
+        [*h0, *h1] = [0; 2];
+    }
+    let interrupted = Interrupted::of(&recovery.chain, &report, LAST_CYLINDER);
+    interrupted.is_ok_and(|found| !found.is_seek() && found.track_reached(&report).is_ok())
 }
 
 fn kind_of(answer: &Answer) -> AnswerKind {
@@ -201,6 +266,7 @@ mod tests {
     use crate::in_place::changed;
     use crate::simulator::channel::ProgramCheck;
     use crate::simulator::encode::{self, ccw};
+    use crate::simulator::extent::WHOLE_PACK;
     use crate::simulator::report::ReportRule;
     use crate::simulator::sample;
 
@@ -233,6 +299,14 @@ mod tests {
         let marks = marks_of(recovery, &recovered, changed);
         assert!(marks.iter().all(|mark| RecoveryMark::all().contains(mark)));
         marks
+    }
+
+    fn events(recovery: &GeneratedRecovery) -> Vec<RecoveryEvent> {
+        let events = marks(recovery).into_iter().filter_map(|mark| match mark {
+            RecoveryMark::Met(event) => Some(event),
+            _ => None,
+        });
+        events.collect()
     }
 
     #[test]
@@ -284,12 +358,6 @@ mod tests {
         report.csw[7] = 1;
         report.sense[19] = 4;
         recovery.report = encode::report(&report);
-        let met: Vec<RecoveryEvent> = (marks(&recovery).into_iter())
-            .filter_map(|mark| match mark {
-                RecoveryMark::Met(event) => Some(event),
-                _ => None,
-            })
-            .collect();
         let expected = [
             RecoveryEvent::DataChained,
             RecoveryEvent::DataChainedByTic,
@@ -298,7 +366,73 @@ mod tests {
             RecoveryEvent::CountLeft,
             RecoveryEvent::FinishedWithoutCc,
         ];
-        assert_eq!(met, expected);
+        assert_eq!(events(&recovery), expected);
+    }
+
+    /// What is met where this track was sought and a CCW was interrupted: a seek at 0008, or a search at
+    /// 0010.
+    fn met_by_heads(
+        front: [u8; 3],
+        address: u8,
+        sense_6: u8,
+        sought: [u8; 4],
+        extent: [u8; 8],
+    ) -> Vec<RecoveryEvent> {
+        let (mut recovery, mut report) = sample_recovery();
+        let [c0, c1, h0, h1] = sought;
+        report.sense[..3].copy_from_slice(&front);
+        report.sense[6] = sense_6;
+        report.csw[3] = address;
+        report.seek_argument = Some([0, 0, c0, c1, h0, h1]);
+        recovery.report = encode::report(&report);
+        recovery.extent = extent.to_vec();
+        events(&recovery)
+    }
+
+    #[test]
+    fn events_of_heads() {
+        use RecoveryEvent::*;
+        const EIGHT: [u8; 3] = [0, 0x20, 0];
+        const TEN: [u8; 3] = [0, 0x04, 0];
+        let table: [([u8; 3], u8, u8, [u8; 4], &[RecoveryEvent]); 12] = [
+            (TEN, 0x10, 5, [0, 8, 0, 5], &[]),
+            (TEN, 0x10, 0xE5, [0, 8, 0, 5], &[HighBitsOfSense6NotAsked]),
+            (TEN, 0x10, 6, [0, 8, 0, 5], &[AnotherTrackThanSought]),
+            (TEN, 0x10, 18, [0, 8, 0, 18], &[HeadCarried]),
+            (
+                TEN,
+                0x10,
+                18,
+                [0, 8, 0, 5],
+                &[
+                    HeadCarried,
+                    AnotherTrackThanSought,
+                    CarriedThoughSoughtLower,
+                ],
+            ),
+            (
+                TEN,
+                0x10,
+                5,
+                [0, 8, 0, 18],
+                &[AnotherTrackThanSought, NotCarriedThoughSoughtLast],
+            ),
+            (TEN, 0x10, 18, [1, 0x9A, 0, 17], &[OffThePackByHeadReached]),
+            (TEN, 0x10, 18, [1, 0x9A, 0, 18], &[]),
+            (TEN, 0x10, 18, [0, 8, 0, 19], &[HeadSoughtOffThePackIn10A]),
+            (TEN, 0x10, 19, [0, 8, 0, 19], &[]),
+            (TEN, 0x08, 19, [0, 8, 0, 5], &[HeadAboveLastIn10]),
+            (EIGHT, 0x10, 31, [0, 8, 0, 5], &[HeadAboveLastIn8]),
+        ];
+        for (front, address, sense_6, sought, expected) in table {
+            let met = met_by_heads(front, address, sense_6, sought, WHOLE_PACK);
+            assert_eq!(met, expected, "{front:?} {address} {sense_6} {sought:?}");
+        }
+        let to_008_06 = [0, 0, 0, 0, 0, 8, 0, 6];
+        let outside = met_by_heads(TEN, 0x10, 6, [0, 8, 0, 5], to_008_06);
+        assert_eq!(outside, [OutsideTheExtentByHeadReached]);
+        let inside = met_by_heads(TEN, 0x10, 5, [0, 8, 0, 6], to_008_06);
+        assert_eq!(inside, [AnotherTrackThanSought, InTheExtentByHeadReached]);
     }
 
     #[test]

@@ -1,5 +1,6 @@
 //! Changes to one thing of a recovery. Some of them leave it as good as it was.
 
+use super::interrupted::any_sense_6;
 use super::{any_mask, any_seek_argument, any_tries, extent_around, Planned};
 use crate::generate;
 use crate::random::Random;
@@ -18,7 +19,10 @@ pub fn changed(random: &mut Random, turn: usize, mut planned: Planned) -> (&'sta
 
 type Change = (&'static str, fn(&mut Random, &mut Planned));
 
-const CHANGES: [Change; 47] = [
+const CHANGES: [Change; 48] = [
+    ("sense 6 changed", |random, planned| {
+        planned.report.sense[6] = any_sense_6(random);
+    }),
     ("sense 7 changed", |random, planned| {
         planned.report.sense[7] ^= random.pick(&[0x01, 0x10, 0x40, 0x53, 0x80]);
     }),
@@ -136,7 +140,7 @@ const CHANGES: [Change; 47] = [
         planned.report.sense[8..12].copy_from_slice(&track);
     }),
     ("bytes that are not asked", |random, planned| {
-        for at in [3, 4, 5, 6, 12, 14, 23] {
+        for at in [3, 4, 5, 12, 14, 23] {
             planned.report.sense[at] = random.byte();
         }
     }),

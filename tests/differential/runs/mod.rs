@@ -3,12 +3,12 @@
 mod exhaustive;
 mod large;
 
-use crate::chains::{self, GeneratedRestart, GeneratedRun};
+use crate::chains::restart::to_the_first_ccw;
+use crate::chains::{self, GeneratedRun};
 use crate::compare::{Comparison, Disagreement};
 use crate::library::ANSWER;
 use crate::marks::ANSWER_AREAS;
 use crate::random::Random;
-use crate::simulator::encode;
 
 /// Runs generated; every kind of change is made in its turn, at least 250 times.
 const TURNS: usize = 120_000;
@@ -27,16 +27,8 @@ pub fn compare_all(comparison: &mut Comparison, random: &mut Random) -> Result<(
     large::compare_all(comparison)
 }
 
-/// Where a restart is wanted, one that does nothing but go to the chain's first CCW.
+/// From the chain's first CCW, behind a restart where one is wanted.
 fn started(mut run: GeneratedRun, restarted: bool) -> GeneratedRun {
-    if restarted {
-        let mut program = encode::ccw(0x03, 0, 0x40, 1).to_vec();
-        program.extend(encode::ccw(0x08, 0, 0, 0));
-        program.resize(64, 0);
-        run.restart = Some(GeneratedRestart {
-            program,
-            arguments: vec![0; 16],
-        });
-    }
+    run.restart = restarted.then(to_the_first_ccw);
     run
 }

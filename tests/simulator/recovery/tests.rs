@@ -71,6 +71,16 @@ impl Call {
         call
     }
 
+    /// Action 10A for track 008/02 and the CCW at 0018, head 17 reached.
+    fn protected_step() -> Call {
+        Call::protected_seek().with(|call| {
+            call.chain[0x18] = 0xB1;
+            call.report.csw[3] = 0x20;
+            call.report.seek_argument = Some([0, 0, 0, 8, 0, 2]);
+            call.report.sense[6] = 17;
+        })
+    }
+
     fn with(mut self, change: impl FnOnce(&mut Call)) -> Call {
         change(&mut self);
         self
@@ -492,15 +502,51 @@ fn action_10_to_the_next_ccw() {
 
 #[test]
 fn action_10a_to_the_interrupted_ccw() {
-    for (head, next) in [(17, [0, 8, 0, 18]), (18, [0, 9, 0, 0])] {
-        let call = Call::protected_seek().with(|call| {
-            call.report.csw[3] = 0x20;
-            call.report.seek_argument = Some([0, 0, 0, 8, 0, head]);
-        });
-        let (action, ccws, arguments) = call.restart();
-        assert_eq!((action, ccws[3][3]), (RestartAction::TenA, 0x18));
-        assert_eq!(arguments[2..6], next);
+    for (sense_6, next) in [
+        (0, [0, 8, 0, 1]),
+        (17, [0, 8, 0, 18]),
+        (18, [0, 9, 0, 0]),
+        // Bits 0 to 2 are not asked.
+        (0x80, [0, 8, 0, 1]),
+        (0xF1, [0, 8, 0, 18]),
+        (0x72, [0, 9, 0, 0]),
+    ] {
+        for head in [0, 2, 18] {
+            let call = Call::protected_step().with(|call| {
+                call.report.seek_argument = Some([0, 0, 0, 8, 0, head]);
+                call.report.sense[6] = sense_6;
+            });
+            let (action, ccws, arguments) = call.restart();
+            assert_eq!((action, ccws[3][3]), (RestartAction::TenA, 0x18));
+            assert_eq!(arguments[2..6], next);
+        }
     }
+}
+
+#[test]
+fn head_reached_above_the_last() {
+    for sense_6 in [19, 31, 0xF3, 0xFF] {
+        let set = |call: &mut Call| call.report.sense[6] = sense_6;
+        let ten_a = Call::protected_step().with(set);
+        let refused = Refusal::Interrupted(InterruptedRule::HeadAboveLast);
+        assert_eq!(ten_a.clone().untouched(), Err(refused));
+        // Before action 2.
+        let outside = ten_a.with(|call| call.extent = [0; 8]);
+        assert_eq!(outside.untouched(), Err(refused));
+        let eight = Call::end_of_cylinder().with(set);
+        assert_eq!(eight.restart().2[2..6], [0, 9, 0, 0]);
+        let ten = Call::protected_seek().with(set);
+        assert_eq!(ten.restart().2[2..6], [0, 8, 0, 18]);
+    }
+}
+
+#[test]
+fn head_sought_is_asked_in_10a_too() {
+    let call = Call::protected_step().with(|call| {
+        call.report.seek_argument = Some([0, 0, 0, 8, 0, 19]);
+    });
+    let refused = Refusal::Interrupted(InterruptedRule::SeekOffThePack);
+    assert_eq!(call.untouched(), Err(refused));
 }
 
 #[test]
@@ -509,8 +555,9 @@ fn behind_the_last_cylinder() {
     let off = |action| Ok(Answer::NotBuilt(action, NotBuilt::OffThePack));
     let eight = Call::end_of_cylinder().with(last);
     assert_eq!(eight.untouched(), off(RestartAction::Eight));
-    let ten_a = Call::protected_seek().with(last);
-    let ten_a = ten_a.with(|call| call.report.csw[3] = 0x20);
+    let ten_a = Call::protected_step().with(last);
+    assert_eq!(ten_a.clone().restart().2[..6], [0, 0, 1, 0x9A, 0, 18]);
+    let ten_a = ten_a.with(|call| call.report.sense[6] = 18);
     assert_eq!(ten_a.untouched(), off(RestartAction::TenA));
     let ten = Call::protected_seek().with(last);
     assert_eq!(ten.restart().2[..6], [0, 0, 1, 0x9A, 0, 18]);
@@ -521,10 +568,7 @@ fn outside_the_extent() {
     let calls = [
         (Call::end_of_cylinder(), RestartAction::Eight),
         (Call::protected_seek(), RestartAction::Ten),
-        (
-            Call::protected_seek().with(|call| call.report.csw[3] = 0x20),
-            RestartAction::TenA,
-        ),
+        (Call::protected_step(), RestartAction::TenA),
     ];
     for (call, action) in calls {
         let call = call.with(|call| call.extent = [0, 8, 0, 0, 0, 8, 0, 17]);
@@ -535,7 +579,11 @@ fn outside_the_extent() {
 
 #[test]
 fn masks_of_8_and_10() {
-    for call in [Call::end_of_cylinder(), Call::protected_seek()] {
+    for call in [
+        Call::end_of_cylinder(),
+        Call::protected_seek(),
+        Call::protected_step(),
+    ] {
         // Bit 7 means nothing here.
         let call = call.with(|call| call.report.mask = Some(0xC1));
         let (_, ccws, arguments) = call.restart();

@@ -1,6 +1,6 @@
 -- `action_eight_ten::ten` meets its contract: the user's track, the interrupted CCW, then whether that is a seek. Assumes nothing.
 use native.Mathlib.Omega.{arith}
-use mathlib.Core.Path.{refl, ap, sym, _∙_}
+use mathlib.Core.Path.{ap, sym, _∙_}
 use Rattle.recovery.specs.Recovery.{isSeek}
 use Rattle.action_eight_ten.proofs.Restarts.{ten-no-track, ten-no-ccw, ten-seek, ten-on}
 use borrow.Author.Needs.{needs}
@@ -14,7 +14,7 @@ enum-told : tie.Need-enum-told
 enum-told c = search needs
 
 returns : tie.Need-returns
-returns c = (ten-no-track _ (c .before .before .before .before .args .t) (c .enum-told .given .1), tt)
+returns c = (ten-no-track _ (c .before .before .before .before .before .args .t) (c .enum-told .given .1), tt)
 
 interrupted-requires : tie.Need-interrupted-requires
 interrupted-requires c κs = search needs
@@ -27,7 +27,7 @@ enum-told-2 c = search needs
 
 returns-2 : tie.Need-returns-2
 returns-2 c =
-    let a = c .before .before .before .before .before .before .before .before .args in
+    let a = c .before .before .before .before .before .before .before .before .before .args in
     (ten-no-ccw _ (a .t) _ (c .before .before .before .before .user .given .1) (rw (c .enum-told2 .given .1) at (c .before .before .interrupted .ensures .0)), tt)
 
 command-of-requires : tie.Need-command-of-requires
@@ -40,7 +40,7 @@ seek-restart-requires : tie.Need-seek-restart-requires
 seek-restart-requires c κs =
     let held = c .before .before .before .before in
     let there = rw (held .c .given .1) at (held .before .before .interrupted .ensures .1) in
-    let pre = held .before .before .before .before .before .before .before .before .pre in
+    let pre = held .before .before .before .before .before .before .before .before .before .pre in
     (pre .0, (pre .1 .csw-low .address, there .0))
 
 returns-3 : tie.Need-returns-3
@@ -48,38 +48,30 @@ returns-3 c =
     let test = c .before in
     let held = test .before .before .before .before in
     let track = held .before .before .before .before in
-    let a = track .before .before .before .before .args in
+    let a = track .before .before .before .before .before .args in
     let there = rw (held .c .given .1) at (held .before .before .interrupted .ensures .0) in
     let yes = ap isSeek (sym (test .before .before .command-of .ensures)) ∙ sym (test .before .is-seek .ensures) ∙ test .if1 .taken in
     let seek = c .seek-restart .ensures in
     (ten-seek _ (a .t) _ (track .user .given .1) _ there _ yes (seek .0), seek .1)
 
-next-track-requires : tie.Need-next-track-requires
-next-track-requires c κs = let track = c .before .before .before .before .before .before .before .before in rw (track .user .given .1) at (track .before .before .before .before .pre .1 .user-on)
-
-sub-home : tie.Need-sub-home
-sub-home c =
-    let held = c .before .before .before .before .before .before in
+reached-restart-requires : tie.Need-reached-restart-requires
+reached-restart-requires c κs =
+    let held = c .before .before .before .before in
+    let track = held .before .before .before .before in
+    let pre = track .before .before .before .before .before .pre in
     let there = rw (held .c .given .1) at (held .before .before .interrupted .ensures .1) in
-    there .0
-
-home-requires : tie.Need-home-requires
-home-requires c κs =
-    let held = c .before .before .before .before .before .before in
-    let there = rw (held .c .given .1) at (held .before .before .interrupted .ensures .1) in
-    let short = held .before .before .before .before .before .before .before .before .pre .0 in
-    (omega (arith, there .1, short), refl)
+    (there .0, (omega (arith, there .1, pre .0), rw (track .user .given .1) at (pre .1 .user-on)))
 
 returns-4 : tie.Need-returns-4
 returns-4 c =
-    let test = c .before .before .before in
+    let test = c .before in
     let held = test .before .before .before .before in
     let track = held .before .before .before .before in
-    let a = track .before .before .before .before .args in
+    let a = track .before .before .before .before .before .args in
     let there = rw (held .c .given .1) at (held .before .before .interrupted .ensures .0) in
     let no = ap isSeek (sym (test .before .before .command-of .ensures)) ∙ sym (test .before .is-seek .ensures) ∙ test .if1 .left in
-    let home = c .home .ensures in
-    (ten-on _ (a .t) _ (track .user .given .1) _ there _ _ no (c .before .before .next-track .ensures) (home .0), home .1)
+    let reached = c .reached-restart .ensures in
+    (ten-on _ (a .t) _ (track .user .given .1) _ there _ no (reached .0), reached .1)
 
 pub ten-spec : {M : Type 1} → statement M
 ten-spec =
@@ -96,7 +88,5 @@ ten-spec =
     is-seek-requires
     seek-restart-requires
     returns-3
-    next-track-requires
-    sub-home
-    home-requires
+    reached-restart-requires
     returns-4)

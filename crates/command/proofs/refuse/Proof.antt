@@ -4,12 +4,12 @@ use borrow.Author.Needs.{needs}
 use Rattle.command.proofs.refuse.Statement.{statement}
 use Rattle.command.proofs.refuse.Tie as tie
 
-csw-at-requires : tie.Need-csw-at-requires
-csw-at-requires c κs = search needs
+checked-requires : tie.Need-checked-requires
+checked-requires c κs = search needs
 
 returns : tie.Need-returns
 unfolding Step.refusal
-returns c = (λ st. rw (c .csw-at .ensures .0), λ image. c .csw-at .ensures .1)
+returns c = c .checked .ensures
 
 pub refuse-spec : {M : Type 1} → statement M
-refuse-spec = tie.close (tie.spec csw-at-requires returns)
+refuse-spec = tie.close (tie.spec checked-requires returns)

@@ -1,7 +1,8 @@
 -- `execute::perform` meets its contract: by where the command is done. Assumes nothing.
+use native.Mathlib.Omega.{arith}
 use mathlib.Core.Path.{ap, _∙_}
 use lib.ListN.{length}
-use Rattle.command.specs.declared.Check.the-variants.{NotFound, Protected, EndOfCylinder}
+use Rattle.drive.specs.Step.{notFound, endOfCylinder, protectedStep}
 use Rattle.command.specs.Answer.{lentOf}
 use Rattle.heads.specs.Reached.{reachedOf}
 use Rattle.read_command.proofs.Moves.{inside-low}
@@ -25,19 +26,25 @@ refuse-requires c κs =
     let pre = c .before .before .before .before .before .before .before .before .before .before .before .pre in
     (inside-low _ _ (pre .0 .short) _ (pre .1 .0 .inside), pre .1 .0 .bytes)
 
+enum-known-stood : tie.Need-enum-known-stood
+enum-known-stood c = search needs
+
+cast-refuse-step : tie.Need-cast-refuse-step
+cast-refuse-step c =
+    let at-stood = c .before .before .before in
+    let low = rw (at-stood .stood .given .1) at (at-stood .before .before .reach .ensures .1) in
+    omega (arith, low)
+
+refuse-step-requires : tie.Need-refuse-step-requires
+refuse-step-requires c κs =
+    let pre = c .before .before .before .before .before .before .before .before .before .before .before .before .before .before .pre in
+    (inside-low _ _ (pre .0 .short) _ (pre .1 .0 .inside), pre .1 .0 .bytes)
+
 enum-told-2 : tie.Need-enum-told-2
 enum-told-2 c = search needs
 
 refuse-requires-2 : tie.Need-refuse-requires-2
 refuse-requires-2 c κs =
-    let pre = c .before .before .before .before .before .before .before .before .before .before .before .pre in
-    (inside-low _ _ (pre .0 .short) _ (pre .1 .0 .inside), pre .1 .0 .bytes)
-
-enum-told-3 : tie.Need-enum-told-3
-enum-told-3 c = search needs
-
-refuse-requires-3 : tie.Need-refuse-requires-3
-refuse-requires-3 c κs =
     let pre = c .before .before .before .before .before .before .before .before .before .before .before .pre in
     (inside-low _ _ (pre .0 .short) _ (pre .1 .0 .inside), pre .1 .0 .bytes)
 
@@ -60,21 +67,22 @@ returns c =
     let reach = c .before .before .before in
     let a = reach .before .before .before .before .before .before .before .before .before .args in
     let refuse = c .refuse in
-    (failed-performs _ (a .arguments .now) _ (a .restart-arguments .now) (a .image .now) _ _ (a .c) (a .k) _ (refuse .result) (a .d) (reach .reach .result) NotFound (ap reachedOf (c .before .enum-told .given .1)) (reach .reach .ensures .0) (refuse .ensures .0), refuse .ensures .1 _)
+    (failed-performs _ (a .arguments .now) _ (a .restart-arguments .now) (a .image .now) _ _ (a .c) (a .k) _ (refuse .result) (a .d) (reach .reach .result) notFound (ap reachedOf (c .before .enum-told .given .1)) (reach .reach .ensures .0) (refuse .ensures .0), refuse .ensures .1 _)
 
 returns-2 : tie.Need-returns-2
 returns-2 c =
-    let reach = c .before .before .before in
+    let at-stood = c .before .before .before .before in
+    let reach = at-stood .before .before in
     let a = reach .before .before .before .before .before .before .before .before .before .args in
-    let refuse = c .refuse2 in
-    (failed-performs _ (a .arguments .now) _ (a .restart-arguments .now) (a .image .now) _ _ (a .c) (a .k) _ (refuse .result) (a .d) (reach .reach .result) Protected (ap reachedOf (c .before .enum-told2 .given .1)) (reach .reach .ensures .0) (refuse .ensures .0), refuse .ensures .1 _)
+    let refuse = c .refuse-step in
+    (failed-performs _ (a .arguments .now) _ (a .restart-arguments .now) (a .image .now) _ _ (a .c) (a .k) _ (refuse .result) (a .d) (reach .reach .result) (protectedStep (at-stood .stood .given .0 .0 .at .head)) (ap reachedOf (at-stood .stood .given .1)) (reach .reach .ensures .0) (refuse .ensures .0), refuse .ensures .1 _)
 
 returns-3 : tie.Need-returns-3
 returns-3 c =
     let reach = c .before .before .before in
     let a = reach .before .before .before .before .before .before .before .before .before .args in
-    let refuse = c .refuse3 in
-    (failed-performs _ (a .arguments .now) _ (a .restart-arguments .now) (a .image .now) _ _ (a .c) (a .k) _ (refuse .result) (a .d) (reach .reach .result) EndOfCylinder (ap reachedOf (c .before .enum-told3 .given .1)) (reach .reach .ensures .0) (refuse .ensures .0), refuse .ensures .1 _)
+    let refuse = c .refuse2 in
+    (failed-performs _ (a .arguments .now) _ (a .restart-arguments .now) (a .image .now) _ _ (a .c) (a .k) _ (refuse .result) (a .d) (reach .reach .result) endOfCylinder (ap reachedOf (c .before .enum-told2 .given .1)) (reach .reach .ensures .0) (refuse .ensures .0), refuse .ensures .1 _)
 
 same-length : tie.Need-same-length
 same-length c = search needs
@@ -97,10 +105,11 @@ perform-spec =
     reach-requires
     enum-told
     refuse-requires
+    enum-known-stood
+    cast-refuse-step
+    refuse-step-requires
     enum-told-2
     refuse-requires-2
-    enum-told-3
-    refuse-requires-3
     enum-known-e
     perform-on-track-requires
     returns

@@ -14,8 +14,8 @@ used-in-requires c κs = search needs
 put-action-requires : tie.Need-put-action-requires
 put-action-requires c κs = search needs
 
-put-mended-requires : tie.Need-put-mended-requires
-put-mended-requires c κs = search needs
+put-detail-requires : tie.Need-put-detail-requires
+put-detail-requires c κs = search needs
 
 slice-aggregate-put-ccws : tie.Need-slice-aggregate-put-ccws
 slice-aggregate-put-ccws c = search needs
@@ -32,7 +32,7 @@ returns c =
     let third = c .before .before .before .before .before .before .before in
     let second = third .before .before .before .before in (
       restart-put _ _ _ _ _ (second .before .before .before .restart-index .ensures) (second .before .before .used-in .ensures .0) (second .put-action .ensures .0)
-          (third .put-mended .ensures .0) (c .before .before .put-ccws .ensures .0),
+          (third .put-detail .ensures .0) (c .before .before .put-ccws .ensures .0),
       search needs,
     )
 
@@ -43,7 +43,7 @@ put-restart-spec =
     restart-index-requires
     used-in-requires
     put-action-requires
-    put-mended-requires
+    put-detail-requires
     slice-aggregate-put-ccws
     put-ccws-requires
     same-length

@@ -15,7 +15,8 @@ returns c = (step-ends _ (leb-true _ _ (c .if1 .taken)), tt)
 returns-2 : tie.Need-returns-2
 returns-2 c =
     let first = c .before in
-    (step-protected _ (leb-false _ _ (first .if1 .left)) (sym (first .before .protects-step .ensures) ∙ c .if2 .taken), tt)
+    let low = leb-false _ _ (first .if1 .left) in
+    (step-protected _ low (sym (first .before .protects-step .ensures) ∙ c .if2 .taken), low)
 
 next-index-requires : tie.Need-next-index-requires
 next-index-requires c κs =

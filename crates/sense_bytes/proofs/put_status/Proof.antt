@@ -37,6 +37,12 @@ enum-told-5 c = search needs
 put-check-requires-5 : tie.Need-put-check-requires-5
 put-check-requires-5 c κs = search needs
 
+enum-known-s-2 : tie.Need-enum-known-s-2
+enum-known-s-2 c = search needs
+
+put-check-requires-6 : tie.Need-put-check-requires-6
+put-check-requires-6 c κs = search needs
+
 same-length : tie.Need-same-length
 same-length c = search needs
 
@@ -84,6 +90,15 @@ returns-5 c =
     let at-s = at-enum-told5 .before .before .before in
     rw (at-s .s .given .1, at-enum-told5 .enum-told5 .given .1) (c .before .before .put-check5 .ensures)
 
+same-length-6 : tie.Need-same-length-6
+same-length-6 c = search needs
+
+returns-6 : tie.Need-returns-6
+unfolding Step.noSense Step.checkSense
+returns-6 c =
+    let at-s = c .before .before .before .before .before in
+    rw (at-s .s2 .given .1) (c .before .before .put-check6 .ensures)
+
 pub put-status-spec : {M : Type 1} → statement M
 put-status-spec =
     tie.close
@@ -99,6 +114,8 @@ put-status-spec =
     put-check-requires-4
     enum-told-5
     put-check-requires-5
+    enum-known-s-2
+    put-check-requires-6
     same-length
     returns
     same-length-2
@@ -108,4 +125,6 @@ put-status-spec =
     same-length-4
     returns-4
     same-length-5
-    returns-5)
+    returns-5
+    same-length-6
+    returns-6)
