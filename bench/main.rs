@@ -11,6 +11,7 @@ mod simulator;
 
 mod images;
 mod in_place;
+mod overflow;
 mod protected_steps;
 mod readings;
 mod recoveries;
@@ -27,6 +28,7 @@ fn main() -> ExitCode {
             images::print();
             runs::print();
             recoveries::print();
+            overflow::print();
             protected_steps::print();
             readings::print();
         }

@@ -96,6 +96,6 @@ pub fn recovered_by_library(held: &mut HeldRecovery) -> u8 {
     library::recover_held(held, &mut [0; RECOVERY_ANSWER])
 }
 
-fn recovered_by_simulator(held: &mut HeldRecovery) -> u8 {
+pub fn recovered_by_simulator(held: &mut HeldRecovery) -> u8 {
     answer(&held.simulated())
 }

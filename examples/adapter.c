@@ -93,7 +93,7 @@ static const char *const answers[] = {
 };
 static const char *const actions[] = {
     [GIRUVE_ACTION_NONE] = "none", [GIRUVE_ACTION_5] = "5", [GIRUVE_ACTION_5A] = "5A", [GIRUVE_ACTION_8] = "8",
-    [GIRUVE_ACTION_10] = "10", [GIRUVE_ACTION_10A] = "10A",
+    [GIRUVE_ACTION_9] = "9", [GIRUVE_ACTION_10] = "10", [GIRUVE_ACTION_10A] = "10A", [GIRUVE_ACTION_11] = "11",
 };
 
 static void show(const char *what, const uint8_t *bytes, size_t length)

@@ -37,13 +37,13 @@ extern "C" {
 
 /*
  * The version of this header, which is C99 and C++11, and of the library beside it; no call tells it. Major: a name or a call has changed or
- * gone, or an answer is another one; a program must be looked at. Minor: names or calls were added; a program need only be compiled. Patch:
- * neither.
+ * gone, or an answer is another one; a program must be looked at. Minor: names or calls were added, or a report is answered that was refused; a
+ * program need only be compiled. Patch: neither.
  */
-#define GIRUVE_VERSION "3.0.0"
+#define GIRUVE_VERSION "3.1.0"
 enum {
     GIRUVE_VERSION_MAJOR = 3,
-    GIRUVE_VERSION_MINOR = 0,
+    GIRUVE_VERSION_MINOR = 1,
     GIRUVE_VERSION_PATCH = 0,
 };
 
@@ -65,7 +65,7 @@ enum {
     GIRUVE_REFUSED_REPORT = 4,     /* Is the report well formed? */
     GIRUVE_REFUSED_EXTENT = 5,     /* Are both tracks of the extent on the pack, and is the first not after the last? */
     GIRUVE_REFUSED_ROW = 6,        /* Do sense bytes 0 to 2 name an error that the error table has? */
-    GIRUVE_REFUSED_ACTION = 7,     /* Is the action for that error none of 6, 6A, 7, 9 and 11, which are not built? */
+    GIRUVE_REFUSED_ACTION = 7,     /* Is the action for that error none of 6, 6A and 7, which are not built? */
     GIRUVE_REFUSED_FORMAT = 8,     /* For action 5: is sense byte 7 that of a correctable data check, 53 hexadecimal? */
     GIRUVE_REFUSED_AGREEMENT = 9,  /* Do report and chain agree? */
 };
@@ -157,17 +157,22 @@ enum {
  * others may be.
  */
 enum {
-    GIRUVE_TAG_SENSE = 0x10,          /* GIRUVE_SENSE: as the drive gives them. Bits 3 to 7 of byte 6, the head reached, are for action 10A */
+    GIRUVE_TAG_SENSE = 0x10,          /* GIRUVE_SENSE: as the drive gives them. Bits 3 to 7 of byte 6, the head reached, are for actions 10A and 11. For 9
+                                         and 11 byte 3 is 06 hexadecimal, and bytes 15 to 17 have how many bytes the read has come */
     GIRUVE_TAG_CSW = 0x11,            /* GIRUVE_CSW: its first byte 0, its address counted from the front of the chain */
-    GIRUVE_TAG_FIRST_CCW = 0x12,      /* 2: address of the first CCW of the read that was cut, and of its data chain; 0 where no read was cut */
+    GIRUVE_TAG_FIRST_CCW = 0x12,      /* 2: address of the first CCW of the read that was cut, or interrupted inside an overflow record, and of its data
+                                         chain; 0 where no read was */
     GIRUVE_TAG_MASK = 0x13,           /* 1: the file mask that the chain had set, with bits 2, 5 and 6 off; absent where it had set none */
-    GIRUVE_TAG_SEEK_ARGUMENT = 0x14,  /* 6: 0, 0, cylinder 2, head 2, for actions 8, 10 and 10A: that of the seek that a mask forbade, else of the last
-                                         seek made, by a restart too. It cannot be checked: a wrong one leads to a wrong track. 8 and 10A take
+    GIRUVE_TAG_SEEK_ARGUMENT = 0x14,  /* 6: 0, 0, cylinder 2, head 2, for actions 8 to 11: that of the seek that a mask forbade, else of the last seek
+                                         made, by a restart too. It cannot be checked: a wrong one leads to a wrong track. 8, 9, 10A and 11 take
                                          its cylinder alone; its head must still lie on the pack */
     GIRUVE_TAG_TRIES = 0x15,          /* 1: how often it was tried again for this error; absent stands for 0 */
 };
 
-/* Where the restart stands among the addresses of the chain: its CCWs name these places, and its last TIC a CCW of the chain. */
+/*
+ * Where the restart stands among the addresses of the chain: its CCWs name these places, and its last TIC a CCW of the chain. The read of a restart
+ * by action 9 or 11 names the storage.
+ */
 enum {
     GIRUVE_PROGRAM_ADDRESS = 0x1000,
     GIRUVE_RESTART_ARGUMENTS_ADDRESS = 0x2000,
@@ -205,8 +210,11 @@ enum {
     GIRUVE_ACTION_5 = 0x05,    /* a data check mended; a restart goes on behind the record, found by its ID */
     GIRUVE_ACTION_5A = 0x15,   /* the same, with a read count (12, or 92 before an 86 or 8E) before the restart's last TIC */
     GIRUVE_ACTION_8 = 0x08,    /* a restart at the first track of the next cylinder, with the CCW that was interrupted */
+    GIRUVE_ACTION_9 = 0x09,    /* a restart at the first track of the next cylinder, inside an overflow record: its read takes what is left of the CCW
+                                  that was interrupted, and the chain goes on behind that */
     GIRUVE_ACTION_10 = 0x0A,   /* a restart that makes the user's seek, and goes on behind it */
     GIRUVE_ACTION_10A = 0x1A,  /* a restart at the track behind the head reached, with the CCW that was interrupted */
+    GIRUVE_ACTION_11 = 0x0B,   /* a restart at the track behind the head reached, inside an overflow record: as action 9 */
 };
 
 /* Places in the answer of a reading. */
@@ -243,7 +251,8 @@ uint8_t giruve_check_restart_areas(size_t program, size_t restart_arguments);
  * Writes the answer (GIRUVE_AT_RECOVERY_..), and by what it says (GIRUVE_ANSWER_..): storage, where it is mended; the restart program and its
  * arguments, both whole, for GIRUVE_ANSWER_RESTART. Where the seek of a restart would leave the pack or the extent, there is none:
  * GIRUVE_ANSWER_ACTION_2 is answered, and storage keeps its bytes. Of storage it changes the bytes that it mends, three at most, and
- * copies none: its time goes by the CCWs of the read, not by its bytes.
+ * copies none: its time goes by the CCWs of the read, not by its bytes. For actions 9 and 11 it follows the read as far as sense bytes 15 to 17 say.
+ * The longest way, 16,777,215 CCWs of one byte round a TIC, took a tenth of a second.
  */
 uint8_t giruve_recover(const uint8_t *chain, size_t chain_length, const uint8_t *report, size_t report_length,
                        const uint8_t *extent, size_t extent_length, uint8_t *storage, size_t storage_length,
@@ -270,8 +279,9 @@ uint8_t giruve_run(const uint8_t *chain, size_t chain_length, const uint8_t *arg
 /*
  * Runs a restart program, and the chain from the CCW on to which it leads, with GIRUVE_RESTART_LIMIT. Asks, returns and writes the same.
  *
- * The address in the CSW may lie in the restart program. Where the image lacks the track that a restart by action 8, 10 or 10A seeks, it is that of
- * its read home address, 1A, which finds no record: 08 in byte 1 of the sense.
+ * The address in the CSW may lie in the restart program. Where the image lacks the track that a restart by action 8 to 11 seeks, it is that of its read
+ * home address, 1A, which finds no record: 08 in byte 1 of the sense. The read of a restart by action 9 or 11 ends the chain there where it chains
+ * nothing or has incorrect length. No record of the trial drive goes on on the next track.
  */
 uint8_t giruve_run_restart(const uint8_t *chain, size_t chain_length, const uint8_t *arguments, size_t arguments_length,
                            const uint8_t *program, size_t program_length,

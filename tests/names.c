@@ -199,6 +199,16 @@ static int answered(uint8_t what, uint8_t action)
     return answer[GIRUVE_AT_RECOVERY_WHAT] == what && answer[GIRUVE_AT_RECOVERY_ACTION] == action;
 }
 
+/* Whether recovery answers this to the report of a read of four bytes, the third of the chain's CCWs, interrupted behind three of them. */
+static int interrupted(int sense_1, uint8_t action)
+{
+    const uint8_t sense[GIRUVE_SENSE] = {[1] = (uint8_t)sense_1, [3] = READ_DATA, [17] = 3};
+    const uint8_t csw[GIRUVE_CSW] = {0, 0, 0, 3 * CCW, GIRUVE_CHANNEL_END | GIRUVE_DEVICE_END | GIRUVE_UNIT_CHECK, 0, 0, 1};
+    const uint8_t first[] = {0, 2 * CCW};
+    make_report(sense, csw, first, NULL, seek_argument, 0);
+    return recover(sizeof chain, whole_pack, GIRUVE_RECOVERY_ANSWER) == GIRUVE_DONE && answered(GIRUVE_ANSWER_RESTART, action);
+}
+
 static void recoveries(void)
 {
     cut_chain(mask, CC, NO_OP);
@@ -222,6 +232,7 @@ static void recoveries(void)
     HOLDS(answers(0, 0x04, 0, seek_argument, 0, GIRUVE_ANSWER_RESTART, GIRUVE_ACTION_10));
     put_ccw(1, NO_OP, 0, CC, 1);
     HOLDS(answers(0, 0x04, 0, seek_argument, 0, GIRUVE_ANSWER_RESTART, GIRUVE_ACTION_10A));
+    HOLDS(interrupted(0x21, GIRUVE_ACTION_9) && interrupted(0x05, GIRUVE_ACTION_11));
 }
 
 static void refusals(void)

@@ -16,12 +16,14 @@ fn main() -> ExitCode {
 }
 
 /// Each action of a restart, as cases name it and as the library writes it.
-const RESTARTS: [(RestartAction, &str, u8); 5] = [
+const RESTARTS: [(RestartAction, &str, u8); 7] = [
     (RestartAction::Five, "5", 0x05),
     (RestartAction::FiveA, "5A", 0x15),
     (RestartAction::Eight, "8", 0x08),
+    (RestartAction::Nine, "9", 0x09),
     (RestartAction::Ten, "10", 0x0A),
     (RestartAction::TenA, "10A", 0x1A),
+    (RestartAction::Eleven, "11", 0x0B),
 ];
 
 fn recover_simulator(lent: &mut Lent) -> Answer {

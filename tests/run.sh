@@ -3,7 +3,7 @@
 # commands of the pages, which write the library that further tests link; a recovery's time by the length of the record; the simulator's
 # own; the hand-written cases of runs, of recoveries and of whole readings on simulator and library; the tables of docs/REFERENCE.md; library
 # against simulator; the C examples; what the header says of the archive, and its installation; the programs on their samples; the edits of
-# the definitions that two theorems must not survive; and whether docs/FIGURES.md tells how many inputs these were.
+# the definitions that the theorems must not survive; and whether docs/FIGURES.md tells how many inputs these were.
 set -euo pipefail
 cd "$(dirname "${BASH_SOURCE[0]}")/.."
 

@@ -25,6 +25,9 @@ mod lendings;
 #[allow(dead_code)]
 #[path = "differential/marks.rs"]
 mod marks;
+#[allow(dead_code, unused_imports)]
+#[path = "differential/overflow_marks/mod.rs"]
+mod overflow_marks;
 #[allow(dead_code)]
 #[path = "differential/protected_steps.rs"]
 mod protected_steps;
@@ -39,5 +42,7 @@ mod recovery_marks;
 #[allow(dead_code)]
 #[path = "differential/reports/mod.rs"]
 mod reports;
+#[path = "differential/rest_of_read.rs"]
+mod rest_of_read;
 #[path = "differential/step_marks.rs"]
 mod step_marks;

@@ -396,8 +396,10 @@ fn judge(measured: &Measured, stack: usize) -> ExitCode {
         (6, 0x05),
         (6, 0x15),
         (6, 0x08),
+        (6, 0x09),
         (6, 0x0A),
         (6, 0x1A),
+        (6, 0x0B),
     ];
     for (what, action) in answers {
         let recovery = (Function::giruve_recover, 0, what, action);

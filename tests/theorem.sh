@@ -1,13 +1,14 @@
 #!/usr/bin/env bash
 # Edits of the definitions that make a theorem false, in a folder named by the theorem's crate: of demand 3, of which bytes of storage recovery
-# changes, and of the head that 10A goes by. Each is applied in a copy of the crates; then a law that the theorem rests on, or the theorem
+# changes, of the head that 10A goes by, of where 9 and 11 put the rest of a read, and of the actions besides these. Each is applied in a copy of the crates; then a law that the theorem rests on, or the theorem
 # itself, must not be proved, and the first error must say so (tests/refusals). The test of this test: the edits of tests/theorem/bad are none,
 # and each must be reported. An edit: `# why`, `file: PATH`, then pairs of `old: TEXT` and `new: TEXT`.
 set -euo pipefail
 cd "$(dirname "${BASH_SOURCE[0]}")/.."
 
-declare -A theorems=([demand_three]=DemandThree [recovery_storage]=Storage [head_reached]=Head)
-declare -A promises=([demand_three]="demand 3" [recovery_storage]="the promise about storage" [head_reached]="the promise about the head reached")
+declare -A theorems=([demand_three]=DemandThree [recovery_storage]=Storage [head_reached]=Head [overflow_rest]=Whole [other_actions]=Other)
+declare -A promises=([demand_three]="demand 3" [recovery_storage]="the promise about storage" [head_reached]="the promise about the head reached"
+    [overflow_rest]="the promise about the rest of a read" [other_actions]="the promise about the other actions")
 workers=2
 
 rt check "${!theorems[@]}" > /dev/null
@@ -50,7 +51,7 @@ refused() {
     return $status
 }
 
-edits=(tests/theorem/{bad,demand_three,recovery_storage,head_reached}/*.edit)
+edits=(tests/theorem/{bad,demand_three,recovery_storage,head_reached,overflow_rest,other_actions}/*.edit)
 
 # The theorem that an edit is of; those that are none are tried on demand 3.
 crate_of() {
@@ -103,6 +104,6 @@ for at in "${!edits[@]}"; do
             ;;
     esac
 done
-for crate in demand_three recovery_storage head_reached; do
+for crate in demand_three recovery_storage head_reached overflow_rest other_actions; do
     echo "tried: edits of the definitions that make ${promises[$crate]} false: ${count[$crate]}"
 done

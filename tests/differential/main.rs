@@ -18,6 +18,7 @@ mod lendings;
 mod library;
 mod limits;
 mod marks;
+mod overflow_marks;
 mod protected_steps;
 mod random;
 mod reading_marks;
@@ -25,6 +26,7 @@ mod readings;
 mod recoveries;
 mod recovery_marks;
 mod reports;
+mod rest_of_read;
 mod runs;
 mod sizes;
 mod step_marks;
@@ -104,6 +106,18 @@ fn main() -> ExitCode {
             "of them with two such steps or more",
             tally.protected_steps.of_two(),
         ),
+        (
+            "reports that send to action 9 or 11",
+            tally.overflow.reports(),
+        ),
+        (
+            "of them answered by a restart, which reads on as the uncut chain does",
+            tally.overflow.restarts(),
+        ),
+        (
+            "other recoveries, each answered as where 9 and 11 are not built",
+            tally.overflow.others,
+        ),
     ] {
         println!("tried: {what}: {number}");
     }
@@ -123,7 +137,8 @@ fn compare_all(comparison: &mut Comparison, random: &mut Random) -> Result<(), D
     runs::compare_all(comparison, random)?;
     recoveries::compare_all(comparison, random)?;
     readings::compare_all(comparison, random)?;
-    forbidden_steps(comparison, random)
+    forbidden_steps(comparison, random)?;
+    recoveries::overflow::compare_all(comparison, random)
 }
 
 /// Every sequence of four steps over three heads of a cylinder, the last ones and others; generated

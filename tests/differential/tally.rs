@@ -2,6 +2,7 @@
 
 use crate::library::{LIMIT, STOPPED};
 use crate::marks::{Event, Mark};
+use crate::overflow_marks::OverflowTally;
 use crate::protected_steps::RunOnTally;
 use crate::reading_marks::ReadingMark;
 use crate::recovery_marks::RecoveryMark;
@@ -117,6 +118,7 @@ pub struct Tally {
     /// Of those begun, where a multitrack command was begun.
     pub multitrack: Readings,
     pub protected_steps: RunOnTally,
+    pub overflow: OverflowTally,
 }
 
 impl Tally {
@@ -227,6 +229,7 @@ impl Tally {
         }
         println!("chains under a mask that forbids steps");
         print!("{}", self.protected_steps);
+        print!("{}", self.overflow);
     }
 
     fn readings_with(&self, mark: ReadingMark) -> u64 {
@@ -284,7 +287,11 @@ impl Tally {
     }
 
     /// What there are too few of.
-    pub fn too_few(&self) -> Vec<&'static str> {
+    pub fn too_few(&self) -> Vec<String> {
+        let overflow = self
+            .overflow
+            .seldom_seen()
+            .map(|(action, mark)| format!("action {action:?}, {mark}"));
         [
             (self.readings() >= FEWEST_READINGS, "readings"),
             (
@@ -315,9 +322,14 @@ impl Tally {
                 self.protected_steps.are_enough(),
                 "chains under a mask that forbids steps",
             ),
+            (
+                self.overflow.are_enough(),
+                "reports that send to action 9 or 11",
+            ),
         ]
         .into_iter()
-        .filter_map(|(enough, of)| (!enough).then_some(of))
+        .filter_map(|(enough, of)| (!enough).then(|| of.to_string()))
+        .chain(overflow)
         .collect()
     }
 

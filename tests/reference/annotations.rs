@@ -2,9 +2,10 @@
 
 use super::book::Book;
 use super::bytes::{bytes, hex, number, value, Checked};
+use super::inputs::{OF_FIVE_A, OF_NINE};
 
 pub fn check(book: &Book) -> Checked {
-    for heading in ["An input", "Worked restart"] {
+    for heading in ["An input", OF_FIVE_A, OF_NINE] {
         let table = book
             .page
             .table(heading, &["offset", "bytes", "what it is"])?;
@@ -13,7 +14,10 @@ pub fn check(book: &Book) -> Checked {
                 .map_err(|failure| format!("{heading}, offset {offset}: '{what}': {failure}"))?;
         }
     }
-    restart(book)
+    for heading in [OF_FIVE_A, OF_NINE] {
+        restart(book, heading)?;
+    }
+    Ok(())
 }
 
 fn one(book: &Book, offset: usize, shown: &[u8], what: &str) -> Checked {
@@ -113,10 +117,10 @@ fn leading(text: &str) -> Result<usize, String> {
 }
 
 /// The built restart: the names of its commands, where its TICs lead.
-fn restart(book: &Book) -> Checked {
+fn restart(book: &Book, heading: &str) -> Checked {
     let table = book
         .page
-        .table("Worked restart", &["address", "bytes", "what it is"])?;
+        .table(heading, &["address", "bytes", "what it is"])?;
     for [address, shown, what] in table.each() {
         let shown = bytes(shown)?;
         if shown.len() != 8 {
@@ -128,6 +132,8 @@ fn restart(book: &Book) -> Checked {
             0x23 => what.starts_with("set sector"),
             0x31 => what.starts_with("search"),
             0x12 => what.starts_with("read count"),
+            0x1A => what.starts_with("read home address"),
+            0x06 => what.starts_with("restart CCW 1"),
             0x08 if to >= 0x1000 => what == "TIC back to the search",
             0x08 => what == format!("TIC on to CCW {to:04X}"),
             _ => false,

@@ -517,7 +517,7 @@ fn flags(page: &Page) -> Result<HashMap<String, u8>, String> {
 
 fn codes(page: &Page) -> Result<HashMap<String, u8>, String> {
     let table = page.table("Answers", &["action", "code", "C name"])?;
-    table.has(&["none", "5", "5A", "8", "10", "10A"])?;
+    table.has(&["none", "5", "5A", "8", "9", "10", "10A", "11"])?;
     let rows = table.each();
     rows.map(|[action, code, _]| Ok((action.to_string(), hex(code)? as u8)))
         .collect()

@@ -2,7 +2,7 @@
 
 use super::book::{split, tagged, Book};
 use super::bytes::{hex, number, range, source, Checked};
-use super::inputs::worked;
+use super::questions::changed;
 use crate::library;
 use crate::simulator::held::HeldRecovery;
 use std::collections::HashMap;
@@ -173,9 +173,12 @@ fn expected(
 }
 
 /// The worked report with a seek argument and tries, in an extent that is the whole pack; of an
-/// interrupted seek, with the CSW of the chain's first CCW.
+/// interrupted seek, with the CSW of the chain's first CCW. Else a byte of the read's CCW is left, as 9
+/// and 11 need it; with SLI that is no incorrect length, which would end 5.
 fn report(book: &Book, of_seek: bool) -> Result<HeldRecovery, String> {
-    let mut held = worked(book)?;
+    const ONE_LEFT: &str =
+        "sense 3 = 06; ccw 0018 = 06 000000 60 00 0005; csw = 00 000020 0E 00 0001";
+    let mut held = changed(book, ONE_LEFT)?;
     let mut report = Vec::new();
     for (tag, contents) in split(&held.report)? {
         let mut contents = contents.to_vec();

@@ -289,9 +289,12 @@ fn report(book: &Book) -> Checked {
         let texts = match tag {
             "10" => ("no", "any 24 bytes; see [Sense](#sense)"),
             "11" => ("no", "first byte 00; see [CSW](#csw)"),
-            "12" => ("no", "any; question 9 asks more for action 5"),
+            "12" => ("no", "any; question 9 asks more for actions 5, 9 and 11"),
             "13" => ("yes: no mask was set", "bits 2, 5 and 6 off"),
-            "14" => ("yes", "any; question 9 asks more for actions 8, 10 and 10A"),
+            "14" => (
+                "yes",
+                "any; question 9 asks more for actions 8, 9, 10, 10A and 11",
+            ),
             _ => ("yes: 0 tries", "any"),
         };
         ensure!(

@@ -4,19 +4,29 @@ use super::book::{split, Book, KEPT};
 use super::bytes::{byte, source, value, Checked};
 use crate::simulator::held::{HeldReading, HeldRecovery, HeldRun};
 
+/// The headings of the annotated inputs of `explain`.
+pub const OF_FIVE_A: &str = "Worked restart";
+pub const OF_NINE: &str = "Worked restart of 9";
+
 pub fn check(book: &Book) -> Checked {
     let table = book.page.table("Inputs", &["program", "fields in order"])?;
     table.has(&["reading", "explain"])?;
     for [program, fields] in table.each() {
-        let input = match program {
-            "reading" => reading_input(book)?,
-            _ => explain_input(book)?,
+        let inputs = match program {
+            "reading" => vec![reading_input(book)?],
+            _ => vec![
+                explain_input(book, OF_FIVE_A)?,
+                explain_input(book, OF_NINE)?,
+            ],
         };
-        in_order(fields, &input)?;
+        for input in inputs {
+            in_order(fields, &input)?;
+        }
     }
     for (heading, printed) in [
         ("An input", "samples/worked.out"),
-        ("Worked restart", "samples/explain/worked.out"),
+        (OF_FIVE_A, "samples/explain/worked.out"),
+        (OF_NINE, "samples/explain/nine.out"),
     ] {
         ensure!(
             book.page.printed(heading)? == source(printed)?,
@@ -36,8 +46,12 @@ fn reading_input(book: &Book) -> Result<Vec<u8>, String> {
     book.input("An input", "samples/worked.hex")
 }
 
-fn explain_input(book: &Book) -> Result<Vec<u8>, String> {
-    book.input("Worked restart", "samples/explain/worked.hex")
+fn explain_input(book: &Book, heading: &str) -> Result<Vec<u8>, String> {
+    let sample = match heading {
+        OF_NINE => "samples/explain/nine.hex",
+        _ => "samples/explain/worked.hex",
+    };
+    book.input(heading, sample)
 }
 
 /// Asks that the input has the fields that a row names, in that order; those between "13, 14, 15" may
@@ -108,6 +122,11 @@ pub fn worked_reading(book: &Book) -> Result<HeldReading, String> {
 
 /// The recovery of the second one.
 pub fn worked(book: &Book) -> Result<HeldRecovery, String> {
+    worked_under(book, OF_FIVE_A)
+}
+
+/// The recovery of the annotated input under this heading.
+pub fn worked_under(book: &Book, heading: &str) -> Result<HeldRecovery, String> {
     const REPORT: [&str; 6] = [
         "sense",
         "CSW",
@@ -116,7 +135,7 @@ pub fn worked(book: &Book) -> Result<HeldRecovery, String> {
         "seek argument",
         "tries",
     ];
-    let input = explain_input(book)?;
+    let input = explain_input(book, heading)?;
     Ok(HeldRecovery {
         chain: contents(book, &input, "chain")?.to_vec(),
         report: fields(book, &input, &REPORT)?,

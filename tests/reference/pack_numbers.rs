@@ -20,9 +20,10 @@ pub fn check(book: &Book) -> Checked {
         "key length plus data length",
         "R of a fault",
         "error displacement of a fault",
-        "restart displacement in a report",
-        "sector in a report, sense 13",
-        "head reached in a report of 10A, sense 6",
+        "restart displacement in a report of 5",
+        "restart displacement in a report of 9 or 11",
+        "sector in a report of 5, sense 13",
+        "head reached in a report of 10A or 11, sense 6",
         "sector of a set sector; 255 too",
         "tries",
     ])?;
@@ -73,7 +74,7 @@ pub fn check(book: &Book) -> Checked {
                     faulted(book, 1, n)
                 })?
             }
-            "restart displacement in a report" => {
+            "restart displacement in a report of 5" => {
                 ensure!(smallest == "the error displacement", "{name}: {smallest}");
                 for error in [1, 3, 13_000] {
                     bounds(name, (error, number(largest)?), 9, |n| {
@@ -81,11 +82,20 @@ pub fn check(book: &Book) -> Checked {
                     })?
                 }
             }
-            "sector in a report, sense 13" => {
+            "restart displacement in a report of 9 or 11" => {
+                ensure!(both()? == (0, 0xFF_FFFF), "{name}: not all of three bytes");
+                for n in [0, 1, 13_038, 13_039, 0xFF_FFFE, 0xFF_FFFF] {
+                    let answer = interrupted(book, n)?;
+                    ensure!(answer == 0, "{name}: {n} is refused by {answer}");
+                }
+            }
+            "sector in a report of 5, sense 13" => {
                 bounds(name, both()?, 9, |n| recovered(book, 4, 3, n))?
             }
-            "head reached in a report of 10A, sense 6" => {
-                bounds(name, both()?, 9, |n| reached(book, n))?
+            "head reached in a report of 10A or 11, sense 6" => {
+                for report in [OF_TEN_A, OF_ELEVEN] {
+                    bounds(name, both()?, 9, |n| reached(book, report, n))?
+                }
             }
             "sector of a set sector; 255 too" => {
                 let reject = 1;
@@ -172,9 +182,43 @@ fn recovered(book: &Book, restart: usize, error: usize, sector: usize) -> Result
     Ok(book.recover(held)?.number)
 }
 
-/// The worked report as one of 10A, with this head reached.
-fn reached(book: &Book, head: usize) -> Result<u8, String> {
-    let change = format!("sense 0 = 00 04 00; sense 6 = {head:02X}; 14 = 000000000000");
+/// Recovery by 9 from a read that was interrupted behind so many bytes; its data chain leads round.
+fn interrupted(book: &Book, restart: usize) -> Result<u8, String> {
+    const COUNT: usize = 9_999;
+    let mut sense = vec![0; 24];
+    sense[..3].copy_from_slice(&book.sense_bits("1.2 1.7")?);
+    sense[3] = 0x06;
+    sense[15..18].copy_from_slice(&big_endian(restart, 3));
+    let unit = book.status("channel end+device end+unit check")?;
+    let left = COUNT - restart % COUNT;
+    let fields = [
+        book.field("sense", &sense)?,
+        book.field("CSW", &book.csw_of(8, unit, 0, left)?)?,
+        book.field("address of the cut read's first CCW", &[0, 0])?,
+        book.field("seek argument", &[0; 6])?,
+    ];
+    let chain = [
+        book.ccw(0x06, 0, book.flag("CD")?, COUNT)?,
+        book.ccw(0x08, 0, 0, 0)?,
+    ];
+    let held = HeldRecovery {
+        chain: chain.concat(),
+        report: fields.concat(),
+        extent: book.tracks((1, 0), (1, 0))?,
+        storage: vec![0; COUNT],
+        ..HeldRecovery::default()
+    };
+    Ok(book.recover(held)?.number)
+}
+
+/// Of the worked report: one of 10A, and one of 11.
+const OF_TEN_A: &str = "sense 0 = 00 04 00; 14 = 000000000000";
+const OF_ELEVEN: &str =
+    "sense 0 = 00 05 00 06; sense 15 = 000003; csw = 00 000020 0E 00 0001; 14 = 000000000000";
+
+/// The same with this head reached.
+fn reached(book: &Book, report: &str, head: usize) -> Result<u8, String> {
+    let change = format!("{report}; sense 6 = {head:02X}");
     Ok(book.recover(changed(book, &change)?)?.number)
 }
 

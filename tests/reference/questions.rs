@@ -9,6 +9,7 @@ use crate::simulator::areas::RunSizes;
 use crate::simulator::cut::CutRule;
 use crate::simulator::held::{HeldReading, HeldRecovery};
 use crate::simulator::interrupted::InterruptedRule;
+use crate::simulator::overflow::OverflowRule;
 use crate::simulator::{channel::ProgramCheck, Refusal};
 
 pub fn check(book: &Book) -> Checked {
@@ -16,7 +17,8 @@ pub fn check(book: &Book) -> Checked {
     calls(book)?;
     examples(book)?;
     nine_of_five(book)?;
-    nine_of_eight_and_ten(book)
+    nine_of_eight_and_ten(book)?;
+    nine_of_nine_and_eleven(book)
 }
 
 // ---- changes of the worked report
@@ -334,8 +336,70 @@ fn nine_of_eight_and_ten(book: &Book) -> Checked {
         ),
     ];
     const HEADING: &str = "Question 9, actions 8, 10, 10A";
-    let reports = book.page.table(HEADING, &["action", "change"])?;
-    reports.has(&["8", "10", "10A"])?;
+    let reports = reports(book, HEADING, &["8", "10", "10A"])?;
+    points_of(book, HEADING, &points, |point| match point {
+        Next(_) | Interrupted(SeekWithoutCc) => "10",
+        Interrupted(HeadAboveLast) => "10A",
+        _ => "8, 10, 10A",
+    })?;
+    heads_not_asked(book, reports)
+}
+
+fn nine_of_nine_and_eleven(book: &Book) -> Checked {
+    use InterruptedRule::*;
+    use OverflowRule::*;
+    use Refusal::{Interrupted, Next, Overflow, Walk};
+    let points = [
+        ("field 14 is there", Interrupted(NoSeekArgument)),
+        ("it begins 00 00", Interrupted(SeekNotZero)),
+        ("its cylinder is 410 or less", Interrupted(SeekOffThePack)),
+        ("its head is 18 or less", Interrupted(SeekOffThePack)),
+        (
+            "the head reached, sense 6 bits 3 to 7, is 18 or less",
+            Interrupted(HeadAboveLast),
+        ),
+        ("sense 3 is 06", Overflow(OtherRestartCommand)),
+        (
+            "field 12 is the address of a CCW of the chain",
+            Overflow(FirstNotInTheChain),
+        ),
+        ("field 12 is a multiple of 8", Overflow(FirstNotInTheChain)),
+        (
+            "that CCW is a 06, 0E, 1E, 86, 8E or 9E",
+            Overflow(FirstOtherCommand),
+        ),
+        (
+            "the data chain, walked for the restart displacement, meets no program check",
+            Walk(ProgramCheck::CountZero),
+        ),
+        (
+            "the walk ends at the CCW of the CSW's address less 8",
+            Overflow(OtherCcw),
+        ),
+        ("the walk leaves the CSW's count", Overflow(OtherCount)),
+        ("that count is not 0", Overflow(NoCountLeft)),
+        (
+            "with CD or CC in the interrupted CCW: the CCW to go on with is in the chain",
+            Next(ProgramCheck::PastTheChain),
+        ),
+        (
+            "with CD or CC: it is not a TIC that a TIC names",
+            Next(ProgramCheck::TicToTic),
+        ),
+    ];
+    const HEADING: &str = "Question 9, actions 9, 11";
+    let reports = reports(book, HEADING, &["9", "11"])?;
+    points_of(book, HEADING, &points, |point| match point {
+        Interrupted(HeadAboveLast) => "11",
+        _ => "9, 11",
+    })?;
+    not_asked_inside(book, reports)
+}
+
+/// The changes that make the worked report one of each of these actions.
+fn reports<'a>(book: &'a Book, heading: &str, actions: &[&str]) -> Result<&'a Table, String> {
+    let reports = book.page.table(heading, &["action", "change"])?;
+    reports.has(actions)?;
     for [action, change] in reports.each() {
         let mut held = changed(book, change)?;
         held.extent = book.tracks((0, 0), (410, 18))?;
@@ -346,27 +410,34 @@ fn nine_of_eight_and_ten(book: &Book) -> Checked {
             recovered.action
         );
     }
-    let table = book.page.table(HEADING, &["action", "asked", "a no"])?;
+    Ok(reports)
+}
+
+/// Each point of question 9 under a heading, by the examples of a no.
+fn points_of(
+    book: &Book,
+    heading: &str,
+    points: &[(&str, Refusal)],
+    whose: impl Fn(Refusal) -> &'static str,
+) -> Checked {
+    let reports = book.page.table(heading, &["action", "change"])?;
+    let table = book.page.table(heading, &["action", "asked", "a no"])?;
     let found: Vec<&str> = table.each().map(|[_, asked, _]| asked).collect();
+    let known: Vec<&str> = points.iter().map(|(asked, _)| *asked).collect();
     ensure!(
-        found == points.map(|(asked, _)| asked),
+        found == known,
         "line {}: other points, or in another order",
         table.line
     );
     for ([actions, asked, no], (_, point)) in table.each().zip(points) {
-        let whose = match point {
-            Next(_) | Interrupted(SeekWithoutCc) => "10",
-            Interrupted(HeadAboveLast) => "10A",
-            _ => "8, 10, 10A",
-        };
-        ensure!(actions == whose, "{asked}: asked for {actions}");
+        ensure!(actions == whose(*point), "{asked}: asked for {actions}");
         for action in actions.split(", ") {
             let held = changed_on(book, report_of(book, reports, action)?, no)?;
-            refused_by_nine(book, held, point)
+            refused_by_nine(book, held, *point)
                 .map_err(|failure| format!("{action}, {asked}: {no}: {failure}"))?;
         }
     }
-    heads_not_asked(book, reports)
+    Ok(())
 }
 
 /// The report that a row makes of the worked one.
@@ -385,19 +456,83 @@ fn heads_not_asked(book: &Book, reports: &Table) -> Checked {
     let of_sense_6 = ["sense 6 = 01", "sense 6 = 13", "sense 6 = FF"];
     let of_ten_a = ["sense 6 = 20", "sense 6 = E0", "14 = 000000000012"];
     for (action, changes) in [("8", of_sense_6), ("10", of_sense_6), ("10A", of_ten_a)] {
-        let base = report_of(book, reports, action)?;
-        let expected = book.recover(base.clone())?;
-        for change in changes {
-            let recovered = book.recover(changed_on(book, base.clone(), change)?)?;
+        same_restart(book, reports, action, &changes)?;
+    }
+    Ok(())
+}
+
+/// What 9 and 11 leave unasked: the restart is the same. And what comes before action 2.
+fn not_asked_inside(book: &Book, reports: &Table) -> Checked {
+    const SAID: &str = "All of these come before the extent: a report that does not fit is refused, and not \
+         answered by action 2. Not asked, though action 5 asks for them: sense 7 and 13, the error \
+         displacement, a bound of the restart displacement, incorrect length. Not asked either: the rest of \
+         the CSW; sense 6 in 9, its bits 0 to 2 in 11; the code of the interrupted CCW, unless field 12 names \
+         it; and code, count, flags and address of the CCW to go on with. Of field 14 both use the cylinder \
+         alone.";
+    ensure!(book.page.says(SAID), "the page lacks '{SAID}'");
+    let of_both = [
+        "sense 7 = 00",
+        "sense 7 = FF",
+        "sense 13 = FF",
+        "sense 18 = 0000",
+        "sense 18 = FFFF",
+        "csw = 00 000020 00 00 0001",
+        "csw = 00 000020 FF FF 0001",
+        "ccw 0020 = 06 FFFFFF 07 00 0000",
+        "ccw 0020 = 07",
+        "14 = 000000000012",
+    ];
+    for action in ["9", "11"] {
+        same_restart(book, reports, action, &of_both)?;
+        let outside = "extent = 0005 0000 0005 0000";
+        let held = changed_on(book, report_of(book, reports, action)?, outside)?;
+        let recovered = book.recover(held.clone())?;
+        ensure!(
+            recovered.number == 0 && book.answers.get("action 2") == Some(&recovered.what),
+            "{action}: a track outside the extent"
+        );
+        let refused = book.recover(changed_on(book, held, "sense 3 = 05")?)?;
+        ensure!(refused.number == 9, "{action}: the extent comes first");
+    }
+    let of_nine = ["sense 6 = 01", "sense 6 = 13", "sense 6 = FF"];
+    same_restart(book, reports, "9", &of_nine)?;
+    same_restart(book, reports, "11", &["sense 6 = 20", "sense 6 = E0"])?;
+    interrupted_code(book)
+}
+
+/// The interrupted CCW may have any code that is no TIC, a seek's too, where field 12 names another.
+fn interrupted_code(book: &Book) -> Checked {
+    for (action, sense) in [("9", "00 21 00 06"), ("11", "00 05 00 06")] {
+        for code in [0x00, 0x07, 0xFF] {
+            let change = format!(
+                "sense 0 = {sense}; sense 15 = 000005; csw = 00 000028 0E 00 0003; 14 = 000000000000; \
+                 ccw 0018 = 06 000000 80 00 0004; ccw 0020 = {code:02X}; extent = 00000000019A0012"
+            );
+            let recovered = book.recover(changed(book, &change)?)?;
             ensure!(
-                recovered.number == 0
-                    && recovered.what == expected.what
-                    && recovered.action == expected.action
-                    && recovered.held.program == expected.held.program
-                    && recovered.held.restart_arguments == expected.held.restart_arguments,
-                "{action}: another answer with {change}"
+                recovered.number == 0 && book.codes.get(action) == Some(&recovered.action),
+                "{change}: {}",
+                recovered.number
             );
         }
+    }
+    Ok(())
+}
+
+/// Asks that the report of an action is answered alike with each of these changes.
+fn same_restart(book: &Book, reports: &Table, action: &str, changes: &[&str]) -> Checked {
+    let base = report_of(book, reports, action)?;
+    let expected = book.recover(base.clone())?;
+    for change in changes {
+        let recovered = book.recover(changed_on(book, base.clone(), change)?)?;
+        ensure!(
+            recovered.number == 0
+                && recovered.what == expected.what
+                && recovered.action == expected.action
+                && recovered.held.program == expected.held.program
+                && recovered.held.restart_arguments == expected.held.restart_arguments,
+            "{action}: another answer with {change}"
+        );
     }
     Ok(())
 }

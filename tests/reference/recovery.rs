@@ -13,7 +13,7 @@ pub fn check(book: &Book) -> Checked {
 }
 
 /// Changes of the worked report that come to each answer.
-const TO_ANSWERS: [(&str, &str); 8] = [
+const TO_ANSWERS: [(&str, &str); 11] = [
     ("action 1", "sense 0 = 08 80 40"),
     ("action 2", "sense 0 = 80 00 00"),
     ("repeat", "sense 0 = 10 00 00; 15 = 09"),
@@ -24,7 +24,20 @@ const TO_ANSWERS: [(&str, &str); 8] = [
         "restart",
         "sense 0 = 00 20 00; 14 = 000000000001; extent = 00000000019A0012",
     ),
+    (
+        "restart",
+        "sense 0 = 00 21 00 06; sense 15 = 000003; csw = 00 000020 0E 00 0001; 14 = 000000000001; \
+         extent = 00000000019A0012",
+    ),
+    (
+        "restart",
+        "sense 0 = 00 05 00 06; sense 15 = 000003; csw = 00 000020 0E 00 0001; 14 = 000000000001",
+    ),
     ("action 2", "extent = 0000 0000 0000 0000"),
+    (
+        "action 2",
+        "sense 0 = 00 21 00 06; sense 15 = 000003; csw = 00 000020 0E 00 0001; 14 = 000000000001",
+    ),
 ];
 
 fn answers(book: &Book) -> Checked {

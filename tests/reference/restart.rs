@@ -1,15 +1,19 @@
 //! Restart programs and their arguments, assembled from the tables.
 
 use super::book::{Book, Layout, COMMANDS};
-use super::bytes::{big_endian, byte, bytes, hex, value, Checked};
-use super::inputs::worked;
+use super::bytes::{big_endian, byte, bytes, hex, number, value, Checked};
+use super::inputs::{worked, worked_under, OF_FIVE_A, OF_NINE};
 use super::questions::changed_on;
 use crate::simulator::held::HeldRecovery;
 
 pub fn check(book: &Book) -> Checked {
     bit_3(book)?;
     each_action(book)?;
-    worked_restart(book)
+    restart_ccw_1(book)?;
+    for heading in [OF_FIVE_A, OF_NINE] {
+        worked_restart(book, heading)?;
+    }
+    Ok(())
 }
 
 /// The listed commands with bit 3 on and off, as the text names them.
@@ -44,6 +48,9 @@ struct Case {
     sense: &'static str,
     /// Of the CSW: behind the CCW that the report is about.
     address: usize,
+    /// Flags and count left of the read at 0018.
+    flags: u8,
+    left: usize,
     /// The command to go on with behind a cut, at 0030.
     next: u8,
     seek_argument: [u8; 6],
@@ -54,25 +61,35 @@ struct Case {
 const RECORD: [u8; 5] = [0x01, 0x04, 0x00, 0x12, 0x77];
 const SECTOR: u8 = 0x05;
 
+/// The data address and the count of the read at 0018.
+const READ_TO: usize = 0x10;
+const COUNT: usize = 4;
+
 fn each_action(book: &Book) -> Checked {
     let mut cases = Vec::new();
-    for mask in [None, Some(0x00), Some(0xD8)] {
+    let cc = book.flag("CC")?;
+    for mask in [None, Some(0x00), Some(0xD8), Some(0x01)] {
         let mut add = |action, sense, address, next, (head, sense_6)| {
             cases.push(Case {
                 action,
                 sense,
                 address,
+                flags: cc,
+                left: 0,
                 next,
                 seek_argument: [0, 0, 0, 4, 0, head],
                 sense_6,
                 mask,
             })
         };
-        for next in AFTER_FIVE {
-            add("5", "08 00 40", 0x20, next, (0, 0x5F));
-        }
-        for next in AFTER_FIVE_A {
-            add("5A", "08 00 40", 0x20, next, (0, 0x5F));
+        // In PCI fetch mode 5 builds no restart.
+        if mask != Some(0x01) {
+            for next in AFTER_FIVE {
+                add("5", "08 00 40", 0x20, next, (0, 0x5F));
+            }
+            for next in AFTER_FIVE_A {
+                add("5A", "08 00 40", 0x20, next, (0, 0x5F));
+            }
         }
         for head in [0, 3, 18] {
             for sense_6 in [0x00, 0x02, 0x13, 0xFF] {
@@ -84,12 +101,40 @@ fn each_action(book: &Book) -> Checked {
                 add("10A", "00 04 00", 0x20, 0x06, (head, sense_6));
             }
         }
+        let mut add = |action, sense, (flags, left), (head, sense_6)| {
+            cases.push(Case {
+                action,
+                sense,
+                address: 0x20,
+                flags,
+                left,
+                next: 0x06,
+                seek_argument: [0, 0, 0, 4, 0, head],
+                sense_6,
+                mask,
+            })
+        };
+        for head in [0, 3, 18] {
+            for sense_6 in [0x00, 0x02, 0x13, 0xFF] {
+                add("9", "00 21 00", (cc, 1), (head, sense_6));
+            }
+            for sense_6 in [0x00, 0x02, 0x11, 0x12, 0x43, 0xF2] {
+                add("11", "00 05 00", (cc, 1), (head, sense_6));
+            }
+        }
+        // Each combination of CD, CC, SLI, skip and PCI, with 3 bytes taken to none.
+        for flags in (0..32).map(|flags| flags << 3) {
+            for left in 1..=COUNT {
+                add("9", "00 21 00", (flags, left), (3, 0x12));
+                add("11", "00 05 00", (flags, left), (3, 0x12));
+            }
+        }
     }
     for case in &cases {
         let (program, arguments) = assembled(book, case)?;
         let what = format!(
-            "action {} before {:02X}, sense 6 {:02X}, mask {:02X?}",
-            case.action, case.next, case.sense_6, case.mask
+            "action {} before {:02X}, flags {:02X}, {} left, sense 6 {:02X}, mask {:02X?}",
+            case.action, case.next, case.flags, case.left, case.sense_6, case.mask
         );
         let recovered = book.recover(held(book, case)?)?;
         ensure!(
@@ -124,7 +169,7 @@ fn held(book: &Book, case: &Case) -> Result<HeldRecovery, String> {
         book.ccw(0x07, 0, cc, 6)?,
         book.ccw(0x08, 0x30, 0, 0)?,
         book.ccw(0x03, 0, cc, 1)?,
-        book.ccw(0x06, 0, cc, 4)?,
+        book.ccw(0x06, READ_TO, case.flags, COUNT)?,
         book.ccw(0x08, 0x30, 0, 0)?,
         book.ccw(0x03, 0, cc, 1)?,
         book.ccw(case.next, 0, 0, 6)?,
@@ -139,9 +184,13 @@ fn held(book: &Book, case: &Case) -> Result<HeldRecovery, String> {
         .map(|byte| format!("{byte:02X}"))
         .collect();
     let mut change = format!(
-        "sense 0 = {}; sense 6 = {:02X}; sense 8 = {id}; sense 13 = {SECTOR:02X}; \
-         csw = 00 {:06X} 0E 00 0000; 14 = {argument}",
-        case.sense, case.sense_6, case.address
+        "sense 0 = {} 06; sense 6 = {:02X}; sense 8 = {id}; sense 13 = {SECTOR:02X}; \
+         sense 15 = {:06X}; csw = 00 {:06X} 0E 00 {:04X}; 14 = {argument}",
+        case.sense,
+        case.sense_6,
+        COUNT - case.left,
+        case.address,
+        case.left
     );
     if let Some(mask) = case.mask {
         change += &format!("; 13 = {mask:02X}");
@@ -158,8 +207,8 @@ fn assembled(book: &Book, case: &Case) -> Result<(Vec<u8>, Vec<u8>), String> {
         "ID",
         "CCW to go on with",
     ];
-    let table = book.page.table("Program of 8, 10 and 10A", &columns)?;
-    table.has(&["5", "5A", "8", "10", "10A"])?;
+    let table = book.page.table("Where a restart goes", &columns)?;
+    table.has(&["5", "5A", "8", "9", "10", "10A", "11"])?;
     let row = table
         .each::<5>()
         .find(|[action, ..]| *action == case.action);
@@ -212,6 +261,7 @@ fn program(book: &Book, case: &Case, go_on: usize) -> Result<Vec<u8>, String> {
     let columns = ["step", "built", "code", "address", "flags", "count"];
     let heading = match case.action {
         "5" | "5A" => "Program of 5 and 5A",
+        "9" | "11" => "Program of 9 and 11",
         _ => "Program of 8, 10 and 10A",
     };
     let mut program = Vec::new();
@@ -229,6 +279,9 @@ fn program(book: &Book, case: &Case, go_on: usize) -> Result<Vec<u8>, String> {
             "where a mask was set" => case.mask.is_some(),
             "in 5A before 86 and 8E" => case.action == "5A" && [0x86, 0x8E].contains(&case.next),
             "in 5A before all others" => case.action == "5A" && ![0x86, 0x8E].contains(&case.next),
+            "where the interrupted CCW has CD or CC" => {
+                case.flags & (book.flag("CD")? | book.flag("CC")?) != 0
+            }
             _ => return Err(format!("{step}: built '{built}'")),
         };
         if !is_built {
@@ -241,9 +294,21 @@ fn program(book: &Book, case: &Case, go_on: usize) -> Result<Vec<u8>, String> {
         let address = match address {
             "the search" => search.ok_or("no search")?,
             "the CCW to go on with" => go_on,
+            "the next byte of the interrupted CCW" => {
+                let skips = case.flags & book.flag("skip")? != 0;
+                READ_TO + if skips { 0 } else { COUNT - case.left }
+            }
             _ => hex(address)?,
         };
-        program.extend(book.ccw(byte(code)?, address, byte(flags)?, hex(count)?)?);
+        let flags = match flags {
+            "those of the interrupted CCW" => case.flags,
+            _ => byte(flags)?,
+        };
+        let count = match count {
+            "the count left" => case.left,
+            _ => hex(count)?,
+        };
+        program.extend(book.ccw(byte(code)?, address, flags, count)?);
     }
     program.resize(64, 0);
     Ok(program)
@@ -260,7 +325,7 @@ fn arguments(
     let table = book.page.table("Arguments of a restart", &columns)?;
     for [offset, address, ..] in table.each::<4>() {
         ensure!(
-            hex(address)? == 0x2000 + super::bytes::number(offset)?,
+            hex(address)? == 0x2000 + number(offset)?,
             "{address} is not offset {offset}"
         );
     }
@@ -279,11 +344,57 @@ fn arguments(
     ])
 }
 
-/// The bytes of the worked restart are those that the library builds.
-fn worked_restart(book: &Book) -> Checked {
+/// Each example of restart CCW 1, by 9 and by 11.
+fn restart_ccw_1(book: &Book) -> Checked {
+    const PLACE: usize = 0x18;
+    let columns = [
+        "chain",
+        "restart displacement",
+        "CSW's address",
+        "count left",
+        "restart CCW 1",
+        "TIC on to",
+    ];
+    let table = book.page.table("Restart CCW 1", &columns)?;
+    ensure!(table.rows.len() == 7, "{} examples", table.rows.len());
+    for [chain, restart, address, left, ccw, tic] in table.each() {
+        let mut expected = bytes(ccw)?;
+        if tic != "none" {
+            expected.extend(book.ccw(0x08, hex(tic)?, 0, 0)?);
+        }
+        expected.resize(64 - PLACE, 0);
+        for (action, sense) in [("9", "00 21 00 06"), ("11", "00 05 00 06")] {
+            let mut held = worked(book)?;
+            held.chain = bytes(chain)?;
+            held.extent = book.tracks((0, 0), (410, 18))?;
+            let change = format!(
+                "sense 0 = {sense}; sense 15 = {:06X}; csw = 00 {address} 0E 00 {:04X}; \
+                 12 = 0000; 14 = 000000000000",
+                number(restart)?,
+                number(left)?
+            );
+            let recovered = book.recover(changed_on(book, held, &change)?)?;
+            ensure!(
+                recovered.number == 0 && book.codes.get(action) == Some(&recovered.action),
+                "{action}, {chain}, {restart}: {} and {:02X}",
+                recovered.number,
+                recovered.action
+            );
+            let built = &recovered.held.program[PLACE..];
+            ensure!(
+                built == expected,
+                "{action}, {chain}, {restart}: {built:02X?}"
+            );
+        }
+    }
+    Ok(())
+}
+
+/// The bytes of a worked restart are those that the library builds; 5A mends byte 2 of storage.
+fn worked_restart(book: &Book, heading: &str) -> Checked {
     let table = book
         .page
-        .table("Worked restart", &["address", "bytes", "what it is"])?;
+        .table(heading, &["address", "bytes", "what it is"])?;
     let mut shown = Vec::new();
     let mut next = 0x1000;
     for [address, written, _] in table.each() {
@@ -296,7 +407,7 @@ fn worked_restart(book: &Book) -> Checked {
         next += written.len();
         shown.extend(written);
     }
-    let before = worked(book)?;
+    let before = worked_under(book, heading)?;
     let recovered = book.recover(before.clone())?;
     let built = [
         &recovered.held.program[..],
@@ -305,7 +416,9 @@ fn worked_restart(book: &Book) -> Checked {
     .concat();
     ensure!(shown == built, "the library builds {built:02X?}");
     let mut storage = before.storage;
-    storage[2] ^= 1;
+    if heading == OF_FIVE_A {
+        storage[2] ^= 1;
+    }
     ensure!(recovered.held.storage == storage, "another byte is mended");
     Ok(())
 }

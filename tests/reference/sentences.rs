@@ -9,7 +9,7 @@ use crate::simulator::sample;
 
 type Trial = fn(&Book) -> Result<bool, String>;
 
-const SENTENCES: [(&str, Trial); 17] = [
+const SENTENCES: [(&str, Trial); 20] = [
     ("CD goes before CC.", data_chaining_first),
     (
         "A seek to a track that the image lacks is done; it is the next search or read that fails.",
@@ -33,9 +33,31 @@ const SENTENCES: [(&str, Trial); 17] = [
         protected_where_it_began,
     ),
     (
-        "Where the image lacks the track that a restart of 8, 10 or 10A seeks, its 1A finds no record, \
-         and the CSW is that of the 1A: address 001018, or 001020 where a mask was set, and count left 5.",
+        "Where the image lacks the track that a restart of 8 to 11 seeks, its 1A finds no record, and the \
+         CSW is that of the 1A: address 001018, or 001020 where a mask was set, and count left 5.",
         ends_at_the_1a,
+    ),
+    (
+        "Where nothing is chained, or incorrect length ends the chain there, the CSW is that of restart CCW \
+         1: address 001020, or 001028 where a mask was set. The chain's own read would have shown the \
+         address behind the interrupted CCW; statuses and count left are the same.",
+        ends_at_restart_ccw_1,
+    ),
+    (
+        "A report of 9 or 11 whose CSW shows restart CCW 1 is refused by 9, for the walk is one of the \
+         chain.",
+        |book| {
+            let mut holds = true;
+            for report in [OF_NINE, OF_ELEVEN] {
+                let shown = format!("{report}; csw = 00 001020 0E 00 0001");
+                holds &= book.recover(changed(book, &shown)?)?.number == 9;
+            }
+            Ok(holds)
+        },
+    ),
+    (
+        "Mask bit 7 changes nothing in 8 to 11.",
+        fetch_mode_alike,
     ),
     (
         "Without faults, and without a seek behind the mask, it then ends as under a mask that allows \
@@ -265,19 +287,29 @@ fn protected_where_it_began(book: &Book) -> Result<bool, String> {
     Ok(holds)
 }
 
-/// Restarts of 8, 10 and 10A that seek 001/00, 000/09 and 000/03, with a mask and without.
+/// Of the worked report: one of 9, and one of 11 on head 2, each with 3 bytes of 4 taken.
+const OF_NINE: &str =
+    "sense 0 = 00 21 00 06; sense 15 = 000003; csw = 00 000020 0E 00 0001; 14 = 000000000002";
+const OF_ELEVEN: &str = "sense 0 = 00 05 00 06; sense 6 = 02; sense 15 = 000003; \
+     csw = 00 000020 0E 00 0001; 14 = 000000000000";
+
+/// Restarts that seek 001/00, 000/09 and 000/03.
+const RESTARTS: [(&str, &str); 5] = [
+    ("8", "sense 0 = 00 20 00; 14 = 000000000002"),
+    ("9", OF_NINE),
+    (
+        "10",
+        "sense 0 = 00 04 00; 14 = 000000000009; csw = 00 000008 0E 00 0006",
+    ),
+    ("10A", "sense 0 = 00 04 00; sense 6 = 02; 14 = 000000000000"),
+    ("11", OF_ELEVEN),
+];
+
+/// With a mask and without.
 fn ends_at_the_1a(book: &Book) -> Result<bool, String> {
     let unit = book.status("channel end+device end+unit check")?;
-    let reports = [
-        ("8", "sense 0 = 00 20 00; 14 = 000000000002"),
-        (
-            "10",
-            "sense 0 = 00 04 00; 14 = 000000000009; csw = 00 000008 0E 00 0006",
-        ),
-        ("10A", "sense 0 = 00 04 00; sense 6 = 02; 14 = 000000000000"),
-    ];
     let mut holds = true;
-    for (action, report) in reports {
+    for (action, report) in RESTARTS {
         for (mask, address) in [("13 = absent", 0x1018), ("13 = 18", 0x1020)] {
             let change = format!("{report}; {mask}; extent = 00000000019A0012");
             let recovered = book.recover(changed(book, &change)?)?;
@@ -294,6 +326,60 @@ fn ends_at_the_1a(book: &Book) -> Result<bool, String> {
             holds &= ran.csw == book.csw_of(address, unit, 0, 5)?;
             holds &= ran.sense[..3] == book.sense_bits("1.4")?;
         }
+    }
+    Ok(holds)
+}
+
+/// The CCW at 0018 has taken 2 bytes of 4; the rest of the record, of 1 to 3 bytes, is R1 of the track sought.
+/// An uncut read of the whole record shows the same at that CCW.
+fn ends_at_restart_ccw_1(book: &Book) -> Result<bool, String> {
+    const FRONT: [u8; 2] = [1, 2];
+    let chained = book.flag("CD")? | book.flag("CC")?;
+    let mut holds = true;
+    for flags in [0x00, 0x20, 0x40, 0x60, 0x80, 0xA0] {
+        for rest in [&[3][..], &[3, 4], &[3, 4, 5]] {
+            for (mask, address) in [("13 = absent", 0x1020), ("13 = 18", 0x1028)] {
+                let change = format!(
+                    "{OF_NINE}; {mask}; sense 15 = 000002; csw = 00 000020 0E 00 0002; \
+                     ccw 0018 = 06 000000 {flags:02X}; extent = 00000000019A0012"
+                );
+                let recovered = book.recover(changed(book, &change)?)?;
+                let held = HeldRun {
+                    chain: recovered.held.chain.clone(),
+                    storage: vec![KEPT; 64],
+                    image: book.track((1, 0), &[(1, rest)])?,
+                    ..HeldRun::default()
+                };
+                let uncut = book.run(HeldRun {
+                    chain: recovered.held.chain[0x18..].to_vec(),
+                    image: book.track((0, 0), &[(1, &[&FRONT[..], rest].concat())])?,
+                    ..held.clone()
+                })?;
+                let ran = book.run(restarted(held, recovered))?;
+                // The chain of the uncut read begins with the CCW at 0018.
+                let ended = shown(book, &uncut, "address")? == 8;
+                holds &= ended || flags & chained != 0;
+                holds &= (shown(book, &ran, "address")? == address) == ended;
+                holds &= !ended || ran.csw[4..] == uncut.csw[4..];
+            }
+        }
+    }
+    Ok(holds)
+}
+
+fn fetch_mode_alike(book: &Book) -> Result<bool, String> {
+    let mut holds = true;
+    for (action, report) in RESTARTS {
+        let with = |mask: &str| {
+            let change = format!("{report}; {mask}; extent = 00000000019A0012");
+            book.recover(changed(book, &change)?)
+        };
+        let (set, fetch) = (with("13 = C0")?, with("13 = C1")?);
+        holds &= book.codes.get(action) == Some(&fetch.action);
+        holds &= fetch.held.program == set.held.program;
+        let (mut arguments, mask) = (set.held.restart_arguments, 6);
+        arguments[mask] = 0xC1;
+        holds &= fetch.held.restart_arguments == arguments;
     }
     Ok(holds)
 }

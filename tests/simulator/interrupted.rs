@@ -1,5 +1,5 @@
 //! Question 9 for actions 8, 10 and 10A: the user's seek argument, the CCW that was interrupted and, for
-//! 10A, the head reached.
+//! 10A, the head reached. 9 asks for the seek argument too, and 11 for it and the head.
 
 use super::channel::{Ccw, Channel, Program, CCW_LENGTH, FLAG_CHAIN_COMMAND};
 use super::drive::SEEK;
@@ -16,7 +16,7 @@ rules! {
         NotInTheChain,
         Tic,
         SeekWithoutCc,
-        // In sense 6, for 10A.
+        // In sense 6, for 10A and 11.
         HeadAboveLast,
     }
 }
@@ -42,11 +42,7 @@ impl Interrupted {
 
     /// What 10A asks besides; the track that the drive had come to, of the cylinder that the user sought.
     pub fn track_reached(&self, report: &Report) -> Result<TrackAddress, Refusal> {
-        let head = report.head_reached();
-        if head > LAST_HEAD {
-            return Err(Refusal::Interrupted(InterruptedRule::HeadAboveLast));
-        }
-        Ok(TrackAddress { head, ..self.track })
+        track_reached(self.track, report)
     }
 
     /// What 10 asks besides, of a seek; the next CCW.
@@ -58,7 +54,17 @@ impl Interrupted {
     }
 }
 
-fn sought(report: &Report, last_cylinder: u16) -> Result<TrackAddress, InterruptedRule> {
+/// The head reached, of the cylinder that the user sought.
+pub fn track_reached(sought: TrackAddress, report: &Report) -> Result<TrackAddress, Refusal> {
+    let head = report.head_reached();
+    if head > LAST_HEAD {
+        return Err(Refusal::Interrupted(InterruptedRule::HeadAboveLast));
+    }
+    Ok(TrackAddress { head, ..sought })
+}
+
+/// The track of the user's seek argument.
+pub fn sought(report: &Report, last_cylinder: u16) -> Result<TrackAddress, InterruptedRule> {
     let argument = report.seek_argument;
     let argument = argument.ok_or(InterruptedRule::NoSeekArgument)?;
     let (zeros, address) = argument.split_at(2);

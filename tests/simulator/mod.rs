@@ -1,5 +1,5 @@
-//! Document 01 with Tickets 1 and 3 of document 02 written a second time, in plain Rust, to be compared
-//! with the proved library.
+//! Document 01 with Tickets 1, 3 and 4 of document 02 written a second time, in plain Rust, to be
+//! compared with the proved library.
 //!
 //! Decoded values borrow from the lent bytes. Where a call is refused the rule that decided is
 //! named beside the question's number, so that a test can tell the rules of one question apart;
@@ -33,6 +33,7 @@ pub mod fields;
 pub mod held;
 pub mod interrupted;
 pub mod large;
+pub mod overflow;
 pub mod pack;
 pub mod reading;
 pub mod recovery;
@@ -48,6 +49,7 @@ use cut::CutRule;
 use extent::{Extent, ExtentRule};
 use faults::{FaultList, FaultRule};
 use interrupted::InterruptedRule;
+use overflow::OverflowRule;
 use pack::{ImageRule, Pack};
 use report::ReportRule;
 use table::Action;
@@ -69,11 +71,12 @@ pub enum Refusal {
     /// Sense 7 is not 53.
     SenseFormat,
     Cut(CutRule),
-    /// Found in the walk of the cut read's data chain.
+    /// Found in the walk of the read's data chain.
     Walk(ProgramCheck),
     /// Why there is no next CCW where one is needed.
     Next(ProgramCheck),
     Interrupted(InterruptedRule),
+    Overflow(OverflowRule),
 }
 
 impl Refusal {
@@ -88,7 +91,11 @@ impl Refusal {
             Refusal::NoRow => 6,
             Refusal::Action(_) => 7,
             Refusal::SenseFormat => 8,
-            Refusal::Cut(_) | Refusal::Walk(_) | Refusal::Next(_) | Refusal::Interrupted(_) => 9,
+            Refusal::Cut(_)
+            | Refusal::Walk(_)
+            | Refusal::Next(_)
+            | Refusal::Interrupted(_)
+            | Refusal::Overflow(_) => 9,
         }
     }
 }

@@ -5,7 +5,10 @@ use super::channel::{Ccw, FLAG_CHAIN_COMMAND};
 use super::correct::{self, Fate};
 use super::cut::CutRead;
 use super::extent::Extent;
-use super::interrupted::{next_command, next_cylinder, next_track, Interrupted};
+use super::interrupted::{
+    next_command, next_cylinder, next_track, sought, track_reached, Interrupted,
+};
+use super::overflow::OverflowRead;
 use super::pack::TrackAddress;
 use super::report::Report;
 use super::restart::{self, read_count_before, BuiltRestart};
@@ -33,14 +36,27 @@ pub struct Areas<'a> {
     pub restart_arguments: &'a mut [u8],
 }
 
+impl Areas<'_> {
+    /// The same areas, which the lender has again afterwards.
+    fn lent_on(&mut self) -> Areas<'_> {
+        Areas {
+            storage: self.storage,
+            program: self.program,
+            restart_arguments: self.restart_arguments,
+        }
+    }
+}
+
 rules! {
     /// The actions that restart.
     RestartAction {
         Five,
         FiveA,
         Eight,
+        Nine,
         Ten,
         TenA,
+        Eleven,
     }
 }
 
@@ -83,7 +99,30 @@ pub struct Recovered {
 }
 
 /// Questions 1 and 4 to 9, then the action. A refusal leaves all areas.
-pub fn recover(lent: Lent, areas: Areas, last_cylinder: u16) -> Result<Recovered, Refusal> {
+pub fn recover(lent: Lent, mut areas: Areas, last_cylinder: u16) -> Result<Recovered, Refusal> {
+    let without_overflow = recover_without_overflow(lent, areas.lent_on(), last_cylinder);
+    let Err(Refusal::Action(action @ (Action::Nine | Action::Eleven))) = without_overflow else {
+        return without_overflow;
+    };
+    let (row, case) = Case::of(lent, last_cylinder)?;
+    let decision = match action {
+        Action::Nine => case.action_9(areas.storage.len())?,
+        _ => case.action_11(areas.storage.len())?,
+    };
+    Ok(Recovered {
+        row,
+        answer: decision.carried_out(areas),
+        correction: None,
+    })
+}
+
+/// The same where actions 9 and 11 are not built: they are number 7, as 6, 6A and 7 are. "Every report
+/// whose row gives another action" gets this answer.
+pub fn recover_without_overflow(
+    lent: Lent,
+    areas: Areas,
+    last_cylinder: u16,
+) -> Result<Recovered, Refusal> {
     check_recovery(RecoverySizes {
         chain: lent.chain.len(),
         extent: lent.extent.len(),
@@ -91,15 +130,7 @@ pub fn recover(lent: Lent, areas: Areas, last_cylinder: u16) -> Result<Recovered
         program: areas.program.len(),
         restart_arguments: areas.restart_arguments.len(),
     })?;
-    let report = Report::decode(lent.report).map_err(Refusal::Report)?;
-    let extent = Extent::decode(lent.extent, last_cylinder).map_err(Refusal::Extent)?;
-    let row = table::row_of(&report.sense).ok_or(Refusal::NoRow)?;
-    let case = Case {
-        chain: lent.chain,
-        report,
-        extent,
-        last_cylinder,
-    };
+    let (row, case) = Case::of(lent, last_cylinder)?;
     let mut correction = None;
     let decision = match table::TABLE[row].action {
         Action::One => Decision::Answer(Answer::Action1),
@@ -119,17 +150,9 @@ pub fn recover(lent: Lent, areas: Areas, last_cylinder: u16) -> Result<Recovered
         Action::Ten => case.action_10()?,
         unknown => return Err(Refusal::Action(unknown)),
     };
-    let answer = match decision {
-        Decision::Answer(answer) => answer,
-        Decision::Restart(action, built) => {
-            areas.program.copy_from_slice(&built.program);
-            areas.restart_arguments.copy_from_slice(&built.arguments);
-            Answer::Restart(action)
-        }
-    };
     Ok(Recovered {
         row,
-        answer,
+        answer: decision.carried_out(areas),
         correction,
     })
 }
@@ -143,6 +166,17 @@ impl Decision {
     /// Of action 5: whether storage is corrected.
     fn corrects(&self) -> bool {
         !matches!(self, Decision::Answer(Answer::NotBuilt(..)))
+    }
+
+    fn carried_out(self, areas: Areas) -> Answer {
+        match self {
+            Decision::Answer(answer) => answer,
+            Decision::Restart(action, built) => {
+                areas.program.copy_from_slice(&built.program);
+                areas.restart_arguments.copy_from_slice(&built.arguments);
+                Answer::Restart(action)
+            }
+        }
     }
 }
 
@@ -162,7 +196,21 @@ struct Case<'a> {
     last_cylinder: u16,
 }
 
-impl Case<'_> {
+impl<'a> Case<'a> {
+    /// Questions 4, 5 and 6; the row's place in the table is told beside the case.
+    fn of(lent: Lent<'a>, last_cylinder: u16) -> Result<(usize, Case<'a>), Refusal> {
+        let report = Report::decode(lent.report).map_err(Refusal::Report)?;
+        let extent = Extent::decode(lent.extent, last_cylinder).map_err(Refusal::Extent)?;
+        let row = table::row_of(&report.sense).ok_or(Refusal::NoRow)?;
+        let case = Case {
+            chain: lent.chain,
+            report,
+            extent,
+            last_cylinder,
+        };
+        Ok((row, case))
+    }
+
     fn action_5(&self, storage: usize) -> Result<(Decision, CutRead), Refusal> {
         let report = &self.report;
         if report.sense[7] != DATA_AREA_FORMAT {
@@ -220,6 +268,36 @@ impl Case<'_> {
         self.if_allowed(action, track, || {
             restart::from_home_address(track, self.report.mask, to)
         })
+    }
+
+    fn action_9(&self, storage: usize) -> Result<Decision, Refusal> {
+        let track = next_cylinder(self.sought()?);
+        self.through_ccw_1(RestartAction::Nine, track, storage)
+    }
+
+    /// At a seek too: it is a CCW of the data chain like any other.
+    fn action_11(&self, storage: usize) -> Result<Decision, Refusal> {
+        let track = next_track(track_reached(self.sought()?, &self.report)?);
+        self.through_ccw_1(RestartAction::Eleven, track, storage)
+    }
+
+    fn sought(&self) -> Result<TrackAddress, Refusal> {
+        sought(&self.report, self.last_cylinder).map_err(Refusal::Interrupted)
+    }
+
+    /// All that is number 9 comes before action 2.
+    fn through_ccw_1(
+        &self,
+        action: RestartAction,
+        track: TrackAddress,
+        storage: usize,
+    ) -> Result<Decision, Refusal> {
+        let read = OverflowRead::of(self.chain, &self.report, storage)?;
+        let next = read.next(self.chain)?;
+        let mask = self.report.mask;
+        Ok(self.if_allowed(action, track, || {
+            restart::through_ccw_1(track, mask, &read, next.as_ref())
+        }))
     }
 
     /// The restart, unless its seek may not be.

@@ -110,6 +110,11 @@ impl Report {
         [self.sense[20], self.sense[21], self.sense[22]]
     }
 
+    /// Sense 3: the command of restart CCW 1.
+    pub fn restart_command(&self) -> u8 {
+        self.sense[3]
+    }
+
     pub fn sector(&self) -> u8 {
         self.sense[13]
     }
@@ -202,6 +207,7 @@ mod tests {
             *byte = at as u8;
         }
         let report = Report::decode(&written(&fields)).unwrap();
+        assert_eq!(report.restart_command(), 3);
         assert_eq!(report.sector(), 13);
         assert_eq!(report.head_reached(), 6);
         assert_eq!(report.restart_displacement(), 0x0F_1011);

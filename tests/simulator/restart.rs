@@ -1,13 +1,14 @@
-//! Restart programs and their arguments, as actions 5, 5A, 8, 10 and 10A build them.
+//! Restart programs and their arguments, as actions 5, 5A and 8 to 11 build them.
 
 use super::channel::{
     Ccw, CCW_LENGTH, FLAG_CHAIN_COMMAND, FLAG_SKIP, RESTART_ARGUMENTS, RESTART_PROGRAM,
 };
 use super::drive::{
-    READ_COUNT, READ_COUNT_MULTITRACK, READ_DATA_MULTITRACK, READ_HOME_ADDRESS,
+    READ_COUNT, READ_COUNT_MULTITRACK, READ_DATA, READ_DATA_MULTITRACK, READ_HOME_ADDRESS,
     READ_KEY_DATA_MULTITRACK, SEARCH_ID_EQUAL, SEEK, SET_FILE_MASK, SET_SECTOR,
 };
 use super::encode;
+use super::overflow::OverflowRead;
 use super::pack::TrackAddress;
 
 /// Places in the restart arguments.
@@ -51,6 +52,24 @@ pub fn from_home_address(track: TrackAddress, mask: Option<u8>, to: &Ccw) -> Bui
     let mut writer = Writer::new(track, mask, 0);
     writer.put_skipped_read(READ_HOME_ADDRESS, 5);
     writer.put_tic(to.at);
+    writer.built
+}
+
+/// Actions 9 and 11: from the home address of a track to restart CCW 1, which goes on with the read, and to
+/// the next CCW where there is one.
+pub fn through_ccw_1(
+    track: TrackAddress,
+    mask: Option<u8>,
+    read: &OverflowRead,
+    next: Option<&Ccw>,
+) -> BuiltRestart {
+    let mut writer = Writer::new(track, mask, 0);
+    writer.put_skipped_read(READ_HOME_ADDRESS, 5);
+    let (flags, count) = (read.ccw.flags, read.count_left as u16);
+    writer.put(READ_DATA, read.address_left(), flags, count);
+    if let Some(next) = next {
+        writer.put_tic(next.at);
+    }
     writer.built
 }
 
@@ -201,5 +220,42 @@ mod tests {
         assert_eq!(masked.program[8..16], [0x1F, 0, 0x20, 0x06, 0x40, 0, 0, 1]);
         assert_eq!(masked.program[16..40], built.program[8..32]);
         assert_eq!(masked.arguments[6], 0xC0);
+    }
+
+    #[test]
+    fn ccw_1_with_and_without_a_next_ccw() {
+        let track = TrackAddress {
+            cylinder: 0x0109,
+            head: 18,
+        };
+        let read = OverflowRead {
+            ccw: Ccw {
+                at: 0x18,
+                command: 0x9E,
+                address: 0xFF00,
+                flags: 0xA8,
+                count: 0x0203,
+            },
+            count_left: 0x0102,
+        };
+        let next = command_at(0x7F8, 0x31);
+        let built = through_ccw_1(track, None, &read, Some(&next));
+        let expected = program(&[
+            [0x07, 0, 0x20, 0x00, 0x40, 0, 0, 6],
+            [0x23, 0, 0x20, 0x07, 0x40, 0, 0, 1],
+            [0x1A, 0, 0x00, 0x00, 0x50, 0, 0, 5],
+            [0x06, 1, 0x00, 0x01, 0xA8, 0, 1, 2],
+            [0x08, 0, 0x07, 0xF8, 0x00, 0, 0, 0],
+        ]);
+        assert_eq!(built.program, expected);
+        let arguments = [0, 0, 1, 9, 0, 18, 0, 0, 0, 0, 0, 0, 0, 0, 0, 0];
+        assert_eq!(built.arguments, arguments);
+        let masked = through_ccw_1(track, Some(0x01), &read, Some(&next));
+        assert_eq!(masked.program[8..16], [0x1F, 0, 0x20, 0x06, 0x40, 0, 0, 1]);
+        assert_eq!(masked.program[16..48], built.program[8..40]);
+        assert_eq!(masked.arguments[6], 0x01);
+        let last = through_ccw_1(track, None, &read, None);
+        assert_eq!(last.program[..0x20], built.program[..0x20]);
+        assert_eq!(last.program[0x20..], [0; 0x20]);
     }
 }

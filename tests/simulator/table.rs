@@ -23,10 +23,7 @@ rules! {
 impl Action {
     /// Whether a recovery knows the action.
     pub fn is_known(self) -> bool {
-        !matches!(
-            self,
-            Action::Six | Action::SixA | Action::Seven | Action::Nine | Action::Eleven
-        )
+        !matches!(self, Action::Six | Action::SixA | Action::Seven)
     }
 }
 

@@ -38,7 +38,7 @@ fn is_seek(k: Command) -> bool
 }
 
 // The first track of the next cylinder.
-fn next_cylinder(a: Address) -> Address
+pub fn next_cylinder(a: Address) -> Address
     requires { ⌜ onPack lastCylinder a ≡ true ⌝ }
     ensures { λ r. ⌜ r ≡ Recovery.nextCylinder a ⌝ }
 {
@@ -49,7 +49,7 @@ fn next_cylinder(a: Address) -> Address
 }
 
 // The next track: behind head 18 the next cylinder's first.
-fn next_track(a: Address) -> Address
+pub fn next_track(a: Address) -> Address
     requires { ⌜ onPack lastCylinder a ≡ true ⌝ }
     ensures { λ r. ⌜ r ≡ Recovery.nextTrack a ⌝ }
 {

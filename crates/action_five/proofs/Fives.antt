@@ -1,9 +1,8 @@
 -- Action 5, from the tests that the code makes.
---   chain-low                        a CSW can show a CCW of the chain
 --   unreadable .. retrace-ended      the data chain retraced
 --   ended-inside                     the CCW that it ended with stands in the chain
 --   wrong-format .. goes-over        the report and its first CCW
-use Prim.Native.Nat.{ℕ, _-_, _≤_}
+use Prim.Native.Nat.{ℕ, _-_}
 use native.Mathlib.Omega.{arith}
 use mathlib.Core.Path.{_≡_, refl, ap, ap₂, sym, subst, _∙_}
 use mathlib.Core.Bool.{Bool, true, false, _&&_}
@@ -18,14 +17,13 @@ use Rattle.questions.specs.declared.Question.the-variants as Question
 use Rattle.address.specs.declared.Extent.{Extent}
 use Rattle.channel.specs.declared.Ccw.{Ccw}
 use Rattle.channel.specs.declared.Location.{Location}
-use Rattle.channel.specs.declared.Location.the-variants.{Chain, Restart}
-use Rattle.channel.specs.Ccw.{addressOf, fetchIn}
+use Rattle.channel.specs.declared.Location.the-variants.{Chain}
+use Rattle.channel.specs.Ccw.{fetchIn}
 use Rattle.channel.specs.Fetch.{Inside}
 use Rattle.channel.specs.Walk.{Walk, walked, checked, walk, readable}
 use Rattle.channel.proofs.Walks.{Short, short-walked, walk-places}
 use Rattle.channel.proofs.Shown.{WalkShown, walk-shown, fetched-inside}
 use Rattle.drive.specs.Command.{commandOf}
-use Rattle.location.specs.Low.{Low}
 use Rattle.recovery.specs.Table.{Row}
 use Rattle.recovery.specs.Report.{Report}
 use Rattle.recovery.specs.Recovery as Recovery
@@ -44,11 +42,6 @@ use Rattle.decision.specs.Decision.{done, bounded, Decides}
 use Rattle.decision.proofs.Bounded.{refusal-is}
 use Rattle.recovered.specs.Sensible.{Sensible}
 use Rattle.action_five.specs.Five.{WalkedTo, DecidesRetraced}
-
-pub chain-low : (chain : List ℕ) → length chain ≤ 2048 → (l : Location) → Inside chain [] l → Low l
-unfolding addressOf
-chain-low chain h (Chain a) i = omega arith
-chain-low chain h (Restart a) i = omega arith
 
 -- ---- the data chain retraced
 

@@ -1,5 +1,6 @@
 -- A read's data chain retraced, a CCW at a time: ps are the places so far, and the rest of the walk stands behind them.
---   took-count                            a CCW that is not the last takes its count
+--   count-fits .. took-count              a CCW that is not the last chains data and takes its count
+--   chained-usable                        a CCW that a read may not use ends the walk just as a missing one does
 --   retraced-ended, retraced-broken       how it ends at a CCW
 --   stayed-on, places-on, walk-on         how it goes on at the next
 use Prim.Native.Nat.{ℕ, _+_, _-_, _<_, _≤_}
@@ -67,17 +68,16 @@ module _ (c : Ccw) (more : ℕ) (h : (ltb more (c .count) || not (chainsData c))
   not-short : ltb more (c .count) ≡ false
   not-short = or-first (ltb more (c .count)) (not (chainsData c)) h
 
-  count-fits : c .count ≤ more
+  pub count-fits : c .count ≤ more
   count-fits = ltb-false more (c .count) not-short
 
-  chains-on : chainsData c ≡ true
+  pub chains-on : chainsData c ≡ true
   chains-on = not-false _ (or-second (ltb more (c .count)) (not (chainsData c)) h)
 
   pub took-count : (took : ℕ) → took ≡ pick (ltb more (c .count)) more (c .count) → took ≡ c .count
   took-count took e = e ∙ pick-false _ _ not-short
 
--- a CCW that a read may not use ends the walk just as a missing one does
-chained-usable : (on : Location → Ccw → ℕ → ℕ → Walk) (size : ℕ) (f : Fetched) → chained on size (usable size f) ≡ chained on size f
+pub chained-usable : (on : Location → Ccw → ℕ → ℕ → Walk) (size : ℕ) (f : Fetched) → chained on size (usable size f) ≡ chained on size f
 unfolding usable chained
 chained-usable on size (Broken l) = refl
 chained-usable on size (Got l c) =

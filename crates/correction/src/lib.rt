@@ -115,7 +115,7 @@ fn nowhere() -> ThreeStayed
 }
 
 // The lesser of two counts.
-fn lesser(a: usize, b: usize) -> usize
+pub fn lesser(a: usize, b: usize) -> usize
     ensures { λ r. ⌜ r ≡ pick (ltb a b) a b ⌝ }
     ensures { λ r. ⌜ r ≤ a ⌝ }
     ensures { λ r. ⌜ r ≤ b ⌝ }
@@ -127,7 +127,7 @@ fn lesser(a: usize, b: usize) -> usize
 }
 
 // Whether a read that has `more` bytes left ends with the CCW c.
-fn last_of(c: Ccw, more: usize) -> bool
+pub fn last_of(c: Ccw, more: usize) -> bool
     ensures { λ r. ⌜ r ≡ (ltb more (c .count) || not (chainsData c)) ⌝ }
 {
     if more < c.count {
@@ -137,7 +137,7 @@ fn last_of(c: Ccw, more: usize) -> bool
 }
 
 // The CCW behind the one at l, if a read may use it with storage of `size` bytes.
-fn next_usable(chain: &[u8], size: usize, l: Location) -> Fetched
+pub fn next_usable(chain: &[u8], size: usize, l: Location) -> Fetched
     requires { ⌜ Inside (now chain) [] l ⌝ }
     ensures { λ r. ⌜ NextUsable (now (chain .entry)) size l r ⌝ }
     ensures { λ r. ⌜ Usable (now (chain .entry)) size r ⌝ }

@@ -1,8 +1,8 @@
 -- A decision in an extent.
 --   pack-low                     the numbers of a track of the pack
---   plan-low                     the numbers of a restart whose seek is allowed
+--   plan-low, overflow-low       the numbers of a restart whose seek is allowed
 --   restart-in .. no-restart     what the code returns
---   by-seek                      a restart, carried out
+--   by-seek, overflow-by-seek    a restart, carried out
 --   refusal-is                   a refusal, carried out
 --   applied-pick                 one of two answers
 use Prim.Native.Nat.{ℕ, _<_, _≤_}
@@ -22,6 +22,9 @@ use Rattle.address.specs.declared.Address.{Address}
 use Rattle.address.specs.declared.Extent.{Extent}
 use Rattle.address.specs.Order.{lastCylinder, onPack}
 use Rattle.address.specs.Within.{within}
+use Rattle.channel.specs.Fetch.{InBytes}
+use Rattle.restart.specs.Restart.{overflowProgram, restartArgumentsOf}
+use Rattle.restart_areas.specs.Placed.{TicLow}
 use Rattle.correction.specs.declared.Correction.{Correction}
 use Rattle.correction.specs.Retraced.{mended}
 use Rattle.recovery.specs.Recovery as Recovery
@@ -29,9 +32,10 @@ use Rattle.recovered.specs.declared.Recovered.the-variants.{Refused, ActionTwo,
 use Rattle.recovered.specs.Applied.{with, applied}
 use Rattle.recovered.specs.Allowed.{allowed}
 use Rattle.decision.specs.declared.RestartPlan.{RestartPlan}
+use Rattle.decision.specs.declared.OverflowPlan.{OverflowPlan}
 use Rattle.decision.specs.declared.Decision.{Decision}
-use Rattle.decision.specs.declared.Decision.the-variants.{Answers, Corrects, Restarts}
-use Rattle.decision.specs.Decision.{programFor, argumentsFor, done, bounded, PlanLow, DecisionLow}
+use Rattle.decision.specs.declared.Decision.the-variants.{Answers, Corrects, Restarts, Resumes}
+use Rattle.decision.specs.Decision.{programFor, argumentsFor, done, bounded, PlanLow, OverflowLow, DecisionLow}
 use Rattle.decision.proofs.Decision as DecisionType
 
 pub pack-low : (a : Address) → onPack lastCylinder a ≡ true → (a .cylinder ≤ 410) × (a .head ≤ 18)
@@ -43,6 +47,11 @@ plan-low x q h n =
     let low = pack-low (q .track) (and-left (onPack lastCylinder (q .track)) (within x (q .track)) h) in
     record { to-low = n; cylinder-low = omega (arith, low .0); head-low = omega (arith, low .1) }
 
+pub overflow-low : (x : Extent) (q : OverflowPlan) → allowed x (q .track) ≡ true → InBytes (q .first) × TicLow (q .tic) → OverflowLow q
+overflow-low x q h n =
+    let low = pack-low (q .track) (and-left (onPack lastCylinder (q .track)) (within x (q .track)) h) in
+    record { first-low = n .0; tic-low = n .1; cylinder-low = omega (arith, low .0); head-low = omega (arith, low .1) }
+
 module _ (x : Extent) (d : Decision) (q : RestartPlan) (c : Correction) (e : d ≡ Restarts q c) where
   pub restart-in : allowed x (q .track) ≡ true → Restarts q c ≡ bounded x d
   unfolding bounded pick
@@ -52,15 +61,25 @@ module _ (x : Extent) (d : Decision) (q : RestartPlan) (c : Correction) (e : d �
   unfolding bounded pick
   restart-out h = rw (e, h)
 
-no-two : (x : ℕ) → OneOf (0 ∷ 1 ∷ []) x → x ≡ 2 → ⊥
-no-two x (inl e) f = omega arith
-no-two x (inr e) f = omega arith
+module _ (x : Extent) (d : Decision) (q : OverflowPlan) (e : d ≡ Resumes q) where
+  pub resumed-in : allowed x (q .track) ≡ true → Resumes q ≡ bounded x d
+  unfolding bounded pick
+  resumed-in h = rw (e, h)
+
+  pub resumed-out : allowed x (q .track) ≡ false → Answers ActionTwo ≡ bounded x d
+  unfolding bounded pick
+  resumed-out h = rw (e, h)
+
+below-two : (x : ℕ) → OneOf (0 ∷ 1 ∷ []) x → x < 2
+below-two x (inl e) = omega arith
+below-two x (inr e) = omega arith
 
 pub no-restart : (x : Extent) (d : Decision) → OneOf (0 ∷ 1 ∷ []) (Declared.tagOf DecisionType.the-type d) → (d ≡ bounded x d) × DecisionLow d
 unfolding bounded
 no-restart x (Answers r) h = (refl, tt)
 no-restart x (Corrects r c) h = (refl, tt)
-no-restart x (Restarts q c) h = absurd (no-two 2 h refl)
+no-restart x (Restarts q c) h = absurd (omega (arith, below-two 2 h))
+no-restart x (Resumes q) h = absurd (omega (arith, below-two 3 h))
 
 by-test : (b : Bool) (q : RestartPlan) (c : Correction) (st p a : List ℕ)
     → done (pick b (Restarts q c) (Answers ActionTwo)) st p a
@@ -74,6 +93,20 @@ pub by-seek : (x : Extent) (q : RestartPlan) (c : Correction) (st p a : List ℕ
     ≡ pick (allowed x (q .track)) (with (Restart (q .kind)) (mended c st) (programFor q) (argumentsFor q)) (with ActionTwo st p a)
 unfolding bounded
 by-seek x q c st p a = by-test (allowed x (q .track)) q c st p a
+
+overflow-by-test : (b : Bool) (q : OverflowPlan) (st p a : List ℕ)
+    → done (pick b (Resumes q) (Answers ActionTwo)) st p a
+    ≡ pick b (with (Restart (q .kind)) st (overflowProgram (q .mask) (q .first) (q .tic)) (restartArgumentsOf (q .track) (q .mask) 0 [])) (with ActionTwo st p a)
+unfolding pick done
+overflow-by-test true q st p a = refl
+overflow-by-test false q st p a = refl
+
+pub overflow-by-seek : (x : Extent) (q : OverflowPlan) (st p a : List ℕ)
+    → done (bounded x (Resumes q)) st p a
+    ≡ pick (allowed x (q .track)) (with (Restart (q .kind)) st (overflowProgram (q .mask) (q .first) (q .tic)) (restartArgumentsOf (q .track) (q .mask) 0 []))
+    (with ActionTwo st p a)
+unfolding bounded
+overflow-by-seek x q st p a = overflow-by-test (allowed x (q .track)) q st p a
 
 pub refusal-is : (q : Question) (x : Extent) (st p a : List ℕ) → done (bounded x (Answers (Refused q))) st p a ≡ applied (Recovery.refused q) st p a
 unfolding done bounded applied

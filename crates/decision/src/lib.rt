@@ -1,15 +1,19 @@
 // What recovery decides, by value; whether its restart is allowed; and the one function that writes: a decision carried out.
 use address::Address;
 use address::Extent;
+use channel::Ccw;
 use correction::Correction;
 use drive::FileMask;
 use recovered::Kind;
 use recovered::Recovered;
+use restart::LastTic;
 use restart::ReadCount;
 ghost use mathlib.Core.Path.{_≡_};
+ghost use mathlib.Core.List.{[]};
 ghost use lib.ListN.{length};
 ghost use Rattle.recovered.specs.Applied.{with};
-ghost use Rattle.decision.specs.Decision.{orientationOf, programFor, argumentsFor, done, bounded, PlanLow, GoesLow, DecisionLow};
+ghost use Rattle.restart.specs.Restart.{overflowProgram, restartArgumentsOf};
+ghost use Rattle.decision.specs.Decision.{orientationOf, programFor, argumentsFor, done, bounded, PlanLow, OverflowLow, GoesLow, DecisionLow};
 
 // How a restart comes to its record: by a search for its ID, with the read count behind it; or from the home address on.
 pub enum Orientation {
@@ -28,11 +32,22 @@ pub struct RestartPlan {
     pub number: u8,
 }
 
-// What is to be done: an answer and nothing written; an answer, and storage corrected; a restart, and storage corrected.
+// A restart inside an overflow record: which; its track and mask; restart CCW 1; and the last TIC.
+pub struct OverflowPlan {
+    pub track: Address,
+    pub mask: FileMask,
+    pub kind: Kind,
+    pub first: Ccw,
+    pub tic: LastTic,
+}
+
+// What is to be done: an answer and nothing written; an answer, and storage corrected; a restart, and storage corrected; a restart
+// inside an overflow record.
 pub enum Decision {
     Answers(Recovered),
     Corrects(Recovered, Correction),
     Restarts(RestartPlan, Correction),
+    Resumes(OverflowPlan),
 }
 
 // The decision itself; for a restart whose seek lies off the pack or outside the extent, action 2 and nothing written.
@@ -46,6 +61,13 @@ pub fn bound(x: Extent, d: Decision) -> Decision
             let track = q.track;
             if recovered::seek_allowed(x, track) {
                 return Decision::Restarts(q, c);
+            }
+            return Decision::Answers(Recovered::ActionTwo);
+        }
+        Decision::Resumes(q) => {
+            let track = q.track;
+            if recovered::seek_allowed(x, track) {
+                return Decision::Resumes(q);
             }
             return Decision::Answers(Recovered::ActionTwo);
         }
@@ -65,8 +87,10 @@ fn orient(kind: Kind, counts: ReadCount) -> Orientation
         Kind::Five => Orientation::Search(counts),
         Kind::FiveA => Orientation::Search(counts),
         Kind::Eight => Orientation::Home,
+        Kind::Nine => Orientation::Home,
         Kind::Ten => Orientation::Home,
         Kind::TenA => Orientation::Home,
+        Kind::Eleven => Orientation::Home,
     }
 }
 
@@ -94,6 +118,22 @@ fn put_restart(program: &mut [u8], restart_arguments: &mut [u8], q: RestartPlan)
     }
 }
 
+// The same of a restart inside an overflow record.
+fn put_overflow(program: &mut [u8], restart_arguments: &mut [u8], q: OverflowPlan)
+    requires { ⌜ length (now program) ≡ 64 ⌝ }
+    requires { ⌜ length (now «restart_arguments») ≡ 16 ⌝ }
+    requires { ⌜ OverflowLow q ⌝ }
+    ensures { λ _. ⌜ now (program .exit) ≡ overflowProgram (q .mask) (q .first) (q .tic) ⌝ }
+    ensures { λ _. ⌜ now («restart_arguments» .exit) ≡ restartArgumentsOf (q .track) (q .mask) 0 [] ⌝ }
+{
+    let mask = q.mask;
+    let track = q.track;
+    let first = q.first;
+    let tic = q.tic;
+    restart_areas::overflow_program(program, mask, first, tic);
+    restart_areas::begin_arguments(restart_arguments, track, mask, 0);
+}
+
 // Storage and the restart areas as a decision has them, and its answer.
 pub fn carry_out(
     d: Decision,
@@ -117,6 +157,11 @@ pub fn carry_out(
         Decision::Restarts(q, c) => {
             correction::mend(storage, c);
             put_restart(program, restart_arguments, q);
+            let kind = q.kind;
+            Recovered::Restart(kind)
+        }
+        Decision::Resumes(q) => {
+            put_overflow(program, restart_arguments, q);
             let kind = q.kind;
             Recovered::Restart(kind)
         }

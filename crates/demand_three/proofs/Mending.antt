@@ -53,7 +53,7 @@ use Rattle.drive.proofs.Multitrack.{refusedAt}
 use Rattle.drive.proofs.Local.{execute-local, run-joins}
 use Rattle.restart.specs.declared.ReadCount.{ReadCount}
 use Rattle.restart.specs.declared.ReadCount.the-variants.{Omitted, Single, Multitrack}
-use Rattle.restart.specs.Restart.{countPlace, isMultitrackData, countFor, ccwBytes, programOf, searchProgram, searchArguments, restartArgumentsOf, padded}
+use Rattle.restart.specs.Restart.{countPlace, isMultitrackData, countFor, ccwBytes, programEnding, programOf, searchProgram, searchArguments, restartArgumentsOf, padded}
 use Rattle.restart.proofs.Commands as Commands
 use Rattle.restart.proofs.Commands.{placed, ahead}
 use Rattle.restart.proofs.Join as Join
@@ -314,7 +314,7 @@ module _ (g : Lending) (b : Begins g) (inside : allInside (extentOf (g .extent))
               (r .0 ∙ run-joins fs w (first .program) (first .restartArguments) n _ behind (r .1) (next-in z ends-in-chain))
 
           mended-at : Mended faulty limitOf (restartedRun fs w) (recoverCut given) final recovered restartLimit 260 (SeeksInside (extentOf (g .extent))) h s behind
-          unfolding recovered entryOf searchProgram programOf searchArguments restartArgumentsOf padded ccwBytes addressBytes two three
+          unfolding recovered entryOf searchProgram programOf programEnding searchArguments restartArgumentsOf padded ccwBytes addressBytes two three
           mended-at = record {
             report = cut-is;
             entry = entryOf kind cut-is;
@@ -364,7 +364,7 @@ module _ (g : Lending) (b : Begins g) (inside : allInside (extentOf (g .extent))
               (to-count-failed fs w (H .y .at) 0 (H .y .r) to st m (H .track) (H .place) x (is true) sought may (omega arith) n)
 
           strayed-at : Strayed faulty limitOf (restartedRun fs w) (recoverCut given) final recovered restartLimit 260 (SeeksInside (extentOf (g .extent))) h s (atCount end-there)
-          unfolding recovered entryOf searchProgram programOf searchArguments restartArgumentsOf padded ccwBytes addressBytes two three
+          unfolding recovered entryOf searchProgram programOf programEnding searchArguments restartArgumentsOf padded ccwBytes addressBytes two three
           strayed-at = record {
             report = cut-is;
             entry = entryOf kind cut-is;

@@ -164,6 +164,6 @@ pub record LikeFaultless (g : Lending) (e : End) : Type 0 where
   -- "no restart's own seek lies outside the extent"
   pub inside : EachInside (extentOf (g .extent)) built
 
--- DEMAND 3
+-- DEMAND 3. "The equality of cut and uncut chains leaves out overflow records, which the trial drive lacks." (document 02): none of its cuts is inside one.
 abbrev pub DemandThree : Type 0
 DemandThree = (g : Lending) (e : End) → Begins g → Provided g e → LikeFaultless g e

@@ -67,7 +67,7 @@ record Computed (x : Example) : Type 0 where
   shows : endOf (x .lent) (x .faultless) .csw ≡ x .csw
 
 computed : Computed oneCut × Computed twoCuts × Computed twoHeads × Computed pastHeads
-unfolding finding reading arguments begun recorded firstBody secondBody faultFields lending worked overHeads firstFault secondFault endWith lastRead oneCut twoCuts twoHeads pastHeads logOf pick opt part two three bitOn chainFits limitFits runAreas Fields.begins Fields.front Fields.afterFront Fields.fieldsUpTo Fields.fieldsAt Fields.folded Fields.foldedAt same before onPack extentOf within soundExtent Pack.recordOf Pack.homeOf Pack.ledByRecord Pack.ledByHome Pack.ledBy Pack.decodeAt packOf trackIn Pack.numbered Pack.recordIn Image.soundRecord Image.member Image.zeroFirst Image.soundRecords Image.soundTrack Image.follows Image.soundTracks Image.noRecords Image.wellFormedFrom wellFormed Faults.faultOf Faults.ledByFault faultsAt naming Faults.missing Faults.soundFault soundFaults run put store Ccw.ccwAt Ccw.chainsData Ccw.chainsCommand Ccw.skips Ccw.isTic Ccw.formed Ccw.addressOf Ccw.next Ccw.fetchIn Ccw.fetch Ccw.target Ccw.landed Ccw.follow Ccw.resolve Ccw.argumentsAt Ccw.argumentsBase Ccw.argumentInside Ccw.argument Ccw.storageInside Walk.behindPlace Walk.placeUnder Walk.readable Walk.walk Walk.incorrectLength Drive.initial Drive.atIndex Drive.movedPast Drive.turn Drive.passesIndex Drive.pastZero Drive.taken Drive.addressBytes Drive.identifier Drive.sameBytes Drive.countArea Command.codes Command.lookUp Command.commandOf cswAt Step.noSense Step.onward Step.done Step.counted Step.planSeek Step.planSector Step.protects Step.sought Step.passesNow Step.examine Step.planSearch Step.planTransfer Step.included Step.bytesOf Step.areaOf Step.planRecord Step.planPlace Step.planRead Step.sound Step.perform Step.execute Step.dispatch Step.plan Step.settled Step.lengthStatus Step.spread Step.xored Step.arriving Step.faulted Step.byFault Step.transferred Step.carry step Step.isNamed Step.cutSense start Run.ticFirst runFrom settingOf allInside recovered faultedOnes fetchMode Restart.ccwBytes Restart.ticTo Restart.padded Restart.maskCcw Restart.programOf Restart.searchAddress Restart.countCcw Restart.searching Restart.searchProgram Restart.maskByte Restart.restartArgumentsOf Restart.searchArguments Table.rows Table.covers Table.fits Table.actionFor Correct.mend Correct.samePlace Correct.overwritten Correct.corrected Recovery.onlyChain Recovery.seekAllowed Recovery.onNext Recovery.readsData Recovery.lessUnitCheck Recovery.alike Recovery.sensible Recovery.correction Recovery.agrees Recovery.retrace Recovery.searchRestart Recovery.afterWalk Recovery.walkedTo Recovery.actionFive Recovery.act Recovery.recover Whole.reportOf Whole.entryOf Whole.answered Whole.recoverCut Whole.restartedIn Whole.restartedRun Whole.givenIn wholeReading final Reading.noted Reading.reading notes Along Step.areaTaken Step.areaIn Step.protectsStep Step.nextHead Step.stepped Step.readFrom Step.takeFrom Step.onReached Step.planReadMultitrack Step.refusal Step.refuse Step.checkSense Restart.countPlace Restart.isMultitrackData Restart.countFor endsBehind takesFaulted isFailed stepFails endsByStep endsAtCount atCount endOf faultedAreas
+unfolding finding reading arguments begun recorded firstBody secondBody faultFields lending worked overHeads firstFault secondFault endWith lastRead oneCut twoCuts twoHeads pastHeads logOf pick opt part two three bitOn chainFits limitFits runAreas Fields.begins Fields.front Fields.afterFront Fields.fieldsUpTo Fields.fieldsAt Fields.folded Fields.foldedAt same before onPack extentOf within soundExtent Pack.recordOf Pack.homeOf Pack.ledByRecord Pack.ledByHome Pack.ledBy Pack.decodeAt packOf trackIn Pack.numbered Pack.recordIn Image.soundRecord Image.member Image.zeroFirst Image.soundRecords Image.soundTrack Image.follows Image.soundTracks Image.noRecords Image.wellFormedFrom wellFormed Faults.faultOf Faults.ledByFault faultsAt naming Faults.missing Faults.soundFault soundFaults run put store Ccw.ccwAt Ccw.chainsData Ccw.chainsCommand Ccw.skips Ccw.isTic Ccw.formed Ccw.addressOf Ccw.next Ccw.fetchIn Ccw.fetch Ccw.target Ccw.landed Ccw.follow Ccw.resolve Ccw.argumentsAt Ccw.argumentsBase Ccw.argumentInside Ccw.argument Ccw.storageInside Walk.behindPlace Walk.placeUnder Walk.readable Walk.walk Walk.incorrectLength Drive.initial Drive.atIndex Drive.movedPast Drive.turn Drive.passesIndex Drive.pastZero Drive.taken Drive.addressBytes Drive.identifier Drive.sameBytes Drive.countArea Command.codes Command.lookUp Command.commandOf cswAt Step.noSense Step.onward Step.done Step.counted Step.planSeek Step.planSector Step.protects Step.sought Step.passesNow Step.examine Step.planSearch Step.planTransfer Step.included Step.bytesOf Step.areaOf Step.planRecord Step.planPlace Step.planRead Step.sound Step.perform Step.execute Step.dispatch Step.plan Step.settled Step.lengthStatus Step.spread Step.xored Step.arriving Step.faulted Step.byFault Step.transferred Step.carry step Step.isNamed Step.cutSense start Run.ticFirst runFrom settingOf allInside recovered faultedOnes fetchMode Restart.ccwBytes Restart.ticTo Restart.padded Restart.maskCcw Restart.programOf Restart.programEnding Restart.searchAddress Restart.countCcw Restart.searching Restart.searchProgram Restart.maskByte Restart.restartArgumentsOf Restart.searchArguments Table.rows Table.covers Table.fits Table.actionFor Correct.mend Correct.samePlace Correct.overwritten Correct.corrected Recovery.onlyChain Recovery.seekAllowed Recovery.onNext Recovery.readsData Recovery.lessUnitCheck Recovery.alike Recovery.sensible Recovery.correction Recovery.agrees Recovery.retrace Recovery.searchRestart Recovery.afterWalk Recovery.walkedTo Recovery.actionFive Recovery.act Recovery.recover Whole.reportOf Whole.entryOf Whole.answered Whole.recoverCut Whole.restartedIn Whole.restartedRun Whole.givenIn wholeReading final Reading.noted Reading.reading notes Along Step.areaTaken Step.areaIn Step.protectsStep Step.nextHead Step.stepped Step.readFrom Step.takeFrom Step.onReached Step.planReadMultitrack Step.refusal Step.refuse Step.checkSense Restart.countPlace Restart.isMultitrackData Restart.countFor endsBehind takesFaulted isFailed stepFails endsByStep endsAtCount atCount endOf faultedAreas
 computed = (
   record {
     begins = record { areas = refl; image = refl; listed = refl; faults = refl; extent = (refl, refl) };

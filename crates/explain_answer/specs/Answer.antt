@@ -7,7 +7,7 @@ use Rattle.words.specs.Words.{item}
 use Rattle.channel.specs.declared.Csw.{Csw}
 use Rattle.recovery.specs.Recovery.{reachedHead}
 use Rattle.recovered.specs.declared.Kind.{Kind}
-use Rattle.recovered.specs.declared.Kind.the-variants.{Five, FiveA, Eight, Ten, TenA}
+use Rattle.recovered.specs.declared.Kind.the-variants.{Five, FiveA, Eight, Nine, Ten, TenA, Eleven}
 use Rattle.recovered.specs.declared.Recovered.{Recovered}
 use Rattle.recovered.specs.declared.Recovered.the-variants.{Refused, ActionOne, ActionTwo, Repeat, CorrectedOnly, Finished, Restart}
 use Rattle.explain_names.specs.Names.{refusalLine}
@@ -25,8 +25,10 @@ actionTexts =
     ++ ascii "/action 5: storage is corrected, go on behind the search"
     ++ ascii "/action 5A: storage is corrected, go on behind a read count"
     ++ ascii "/action 8: seek the next cylinder, repeat the interrupted CCW"
+    ++ ascii "/action 9: seek the next cylinder, read on by restart CCW 1"
     ++ ascii "/action 10: make the user's seek, go on behind it"
     ++ ascii "/action 10A: seek the next track, repeat the interrupted CCW"
+    ++ ascii "/action 11: seek the next track, read on by restart CCW 1"
 
 -- the text with number i of these, counted from 0, and the line's end
 unfoldable pub actionLine : ℕ → List ℕ
@@ -43,20 +45,24 @@ unfoldable pub restartIndex : Kind → ℕ
 restartIndex Five = 5
 restartIndex FiveA = 6
 restartIndex Eight = 7
-restartIndex Ten = 8
-restartIndex TenA = 9
+restartIndex Nine = 8
+restartIndex Ten = 9
+restartIndex TenA = 10
+restartIndex Eleven = 11
 
--- "For 10A the cylinder comes from the user's argument and the head from sense byte 6": the head in two digits
+-- of 10A and 11: "For 10A the cylinder comes from the user's argument and the head from sense byte 6": the head in two digits
 unfoldable pub headText : (sense : List ℕ) → List ℕ
 headText sense = ascii "head reached" ++ number 10 2 (reachedHead sense) ++ ascii ", by sense byte 6, on the cylinder of the user's seek argument\n"
 
--- what the action rests on: only action 5 corrects storage, and only 10A goes by the head reached
+-- what the action rests on: only action 5 corrects storage, and only 10A and 11 go by the head reached
 unfoldable pub detailText : Kind → (sense storage : List ℕ) → List ℕ
 detailText Five sense st = correctionText sense st
 detailText FiveA sense st = correctionText sense st
 detailText Eight sense st = []
+detailText Nine sense st = []
 detailText Ten sense st = []
 detailText TenA sense st = headText sense
+detailText Eleven sense st = headText sense
 
 -- "restart program, 64 bytes at 1000"
 unfoldable pub restartText : Kind → (sense storage program restartArguments : List ℕ) → List ℕ

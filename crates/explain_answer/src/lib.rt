@@ -17,7 +17,7 @@ fn put_action(out: &mut [u8], at: usize, i: usize) -> usize
     let end = words::put_item(
         out,
         at,
-        b"action 1: permanent error, tell the operator/action 2: give the condition back to the program, no retry/repeat: run the chain again/action 5: storage is corrected, and no more: PCI fetch mode/action 5: storage is corrected, and the chain is finished/action 5: storage is corrected, go on behind the search/action 5A: storage is corrected, go on behind a read count/action 8: seek the next cylinder, repeat the interrupted CCW/action 10: make the user's seek, go on behind it/action 10A: seek the next track, repeat the interrupted CCW",
+        b"action 1: permanent error, tell the operator/action 2: give the condition back to the program, no retry/repeat: run the chain again/action 5: storage is corrected, and no more: PCI fetch mode/action 5: storage is corrected, and the chain is finished/action 5: storage is corrected, go on behind the search/action 5A: storage is corrected, go on behind a read count/action 8: seek the next cylinder, repeat the interrupted CCW/action 9: seek the next cylinder, read on by restart CCW 1/action 10: make the user's seek, go on behind it/action 10A: seek the next track, repeat the interrupted CCW/action 11: seek the next track, read on by restart CCW 1",
         i,
     );
     text::put(out, end, b"\n")
@@ -40,12 +40,14 @@ fn restart_index(k: Kind) -> usize
         Kind::Five => 5,
         Kind::FiveA => 6,
         Kind::Eight => 7,
-        Kind::Ten => 8,
-        Kind::TenA => 9,
+        Kind::Nine => 8,
+        Kind::Ten => 9,
+        Kind::TenA => 10,
+        Kind::Eleven => 11,
     }
 }
 
-// Where the track of 10A comes from.
+// Where the track of 10A and 11 comes from.
 fn put_head(out: &mut [u8], at: usize, sense: &[u8]) -> usize
     requires { ⌜ at + 80 ≤ length (now out) ⌝ }
     requires { ⌜ length (now sense) ≡ 24 ⌝ }
@@ -73,8 +75,10 @@ fn put_detail(out: &mut [u8], at: usize, k: Kind, sense: &[u8], storage: &[u8]) 
         Kind::Five => explain_correction::put_correction(out, at, sense, storage),
         Kind::FiveA => explain_correction::put_correction(out, at, sense, storage),
         Kind::Eight => at,
+        Kind::Nine => at,
         Kind::Ten => at,
         Kind::TenA => put_head(out, at, sense),
+        Kind::Eleven => put_head(out, at, sense),
     }
 }
 

@@ -99,7 +99,7 @@ questionTexts =
     ++ ascii "/is the report well formed?"
     ++ ascii "/is the extent on the pack, first not after last?"
     ++ ascii "/does a row of the error table match?"
-    ++ ascii "/is the action other than 6, 6A, 7, 9, 11?"
+    ++ ascii "/is the action other than 6, 6A, 7?"
     ++ ascii "/for action 5: is sense byte 7 = 53?"
     ++ ascii "/do report and chain agree?"
 

@@ -139,7 +139,7 @@ pub fn put_refusal(out: &mut [u8], at: usize, q: Question) -> usize
     let end = words::put_item(
         out,
         question,
-        b"/are all areas and limits as they must be?/is the image well formed?/is each fault well formed and its record in the image?/is the report well formed?/is the extent on the pack, first not after last?/does a row of the error table match?/is the action other than 6, 6A, 7, 9, 11?/for action 5: is sense byte 7 = 53?/do report and chain agree?",
+        b"/are all areas and limits as they must be?/is the image well formed?/is each fault well formed and its record in the image?/is the report well formed?/is the extent on the pack, first not after last?/does a row of the error table match?/is the action other than 6, 6A, 7?/for action 5: is sense byte 7 = 53?/do report and chain agree?",
         n,
     );
     text::put(out, end, b"\n")

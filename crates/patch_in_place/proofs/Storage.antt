@@ -13,7 +13,7 @@ use Rattle.recovery.specs.Report.{Report, reportFrom}
 use Rattle.recovery.specs.Recovery as Recovery
 use Rattle.recovery_storage.specs.Storage.{storageBehind, ofFive, corrects, Patched}
 use Rattle.recovery_storage.proofs.Storage.{unpatched, patches-in-place}
-use Rattle.recovered.specs.declared.Kind.the-variants.{Five, FiveA, Eight, Ten, TenA}
+use Rattle.recovered.specs.declared.Kind.the-variants.{Five, FiveA, Eight, Nine, Ten, TenA, Eleven}
 use Rattle.recovered.specs.declared.Recovered.{Recovered}
 use Rattle.recovered.specs.declared.Recovered.the-variants.{Refused, ActionOne, ActionTwo, Repeat, CorrectedOnly, Finished, Restart}
 use Rattle.recovered.specs.Applied.{Applied, applied, givenOf}
@@ -45,8 +45,10 @@ applied-corrects (Recovery.finished w s) st p a = refl
 applied-corrects (Recovery.restarts Recovery.five q b s) st p a = refl
 applied-corrects (Recovery.restarts Recovery.fiveA q b s) st p a = refl
 applied-corrects (Recovery.restarts Recovery.eight q b s) st p a = refl
+applied-corrects (Recovery.restarts Recovery.nine q b s) st p a = refl
 applied-corrects (Recovery.restarts Recovery.ten q b s) st p a = refl
 applied-corrects (Recovery.restarts Recovery.tenA q b s) st p a = refl
+applied-corrects (Recovery.restarts Recovery.eleven q b s) st p a = refl
 
 -- ---- the call
 
@@ -92,8 +94,10 @@ handed-corrects b st p a (Finished w) e = never (sym e)
 handed-corrects b st p a (Restart Five) e = never (sym e)
 handed-corrects b st p a (Restart FiveA) e = never (sym e)
 handed-corrects b st p a (Restart Eight) e = refl
+handed-corrects b st p a (Restart Nine) e = refl
 handed-corrects b st p a (Restart Ten) e = refl
 handed-corrects b st p a (Restart TenA) e = refl
+handed-corrects b st p a (Restart Eleven) e = refl
 
 abbrev HandedKeeps : (chain report extent st : List ℕ) → RecoveryHanded → Type 0
 HandedKeeps chain report extent st h = Patched (ReportStayed chain report extent st) (handedCorrects h) st (h .storage)

@@ -11,7 +11,7 @@ use Rattle.address.specs.Within.{extentOf}
 use Rattle.recovery.specs.Table.{rows}
 use Rattle.recovery.specs.Report.{Report, reportFrom}
 use Rattle.recovery_storage.specs.Storage.{PatternStayed, Patched}
-use Rattle.recovered.specs.declared.Kind.the-variants.{Five, FiveA, Eight, Ten, TenA}
+use Rattle.recovered.specs.declared.Kind.the-variants.{Five, FiveA, Eight, Nine, Ten, TenA, Eleven}
 use Rattle.recovered.specs.declared.Recovered.{Recovered}
 use Rattle.recovered.specs.declared.Recovered.the-variants.{Refused, ActionOne, ActionTwo, Repeat, CorrectedOnly, Finished, Restart}
 use Rattle.recovered.specs.Applied.{Applied, givenOf}
@@ -35,8 +35,10 @@ answerCorrects (Finished w) = true
 answerCorrects (Restart Five) = true
 answerCorrects (Restart FiveA) = true
 answerCorrects (Restart Eight) = false
+answerCorrects (Restart Nine) = false
 answerCorrects (Restart Ten) = false
 answerCorrects (Restart TenA) = false
+answerCorrects (Restart Eleven) = false
 
 -- of every call of `recover::recover`, whose contract equates what it answers and leaves with `recoverCall`
 abbrev pub CallPatchesInPlace : Type 0

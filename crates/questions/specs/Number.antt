@@ -19,7 +19,7 @@ numberOf Report = 4
 numberOf Extent = 5
 -- "Does a row match?"
 numberOf Row = 6
--- "Is the action other than 6, 6A, 7, 9, 11?"
+-- "Is the action other than 6, 6A, 7, 9, 11?", of which document 02 builds 9 and 11: "Number 7 remains for 6, 6A and 7."
 numberOf Action = 7
 -- "For 5: is sense 7 = 53?"
 numberOf Format = 8

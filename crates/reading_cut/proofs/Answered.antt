@@ -25,7 +25,7 @@ use Rattle.recovery.specs.Table.{rows}
 use Rattle.recovery.specs.Recovery as Recovery
 use Rattle.report.specs.declared.User.the-variants.{Missing}
 use Rattle.recovered.specs.declared.Kind.{Kind}
-use Rattle.recovered.specs.declared.Kind.the-variants.{Five, FiveA, Eight, Ten, TenA}
+use Rattle.recovered.specs.declared.Kind.the-variants.{Five, FiveA, Eight, Nine, Ten, TenA, Eleven}
 use Rattle.recovered.specs.declared.Recovered.{Recovered}
 use Rattle.recovered.specs.declared.Recovered.the-variants.{Refused, ActionOne, ActionTwo, Repeat, CorrectedOnly, Finished, Restart}
 use Rattle.recovered.specs.Applied.{Applied, with, applied, kindOf, actionNumber, givenOf}
@@ -46,6 +46,7 @@ pub told : (k : Cut) (first : ℕ) → first ≡ addressOf (k .first)
         byte0 = 0x08;
         byte1 = 0;
         byte2 = 0x40;
+        byte3 = 0;
         head = 0;
         format = 0x53;
         track = k .at;
@@ -72,6 +73,7 @@ told k first e = λ st.
         byte0 = refl;
         byte1 = refl;
         byte2 = refl;
+        byte3 = refl;
         head = refl;
         format = refl;
         track = track-is cut;
@@ -96,8 +98,10 @@ abbrev kindBack : Kind → Recovery.Kind
 kindBack Five = Recovery.five
 kindBack FiveA = Recovery.fiveA
 kindBack Eight = Recovery.eight
+kindBack Nine = Recovery.nine
 kindBack Ten = Recovery.ten
 kindBack TenA = Recovery.tenA
+kindBack Eleven = Recovery.eleven
 
 abbrev back : Recovered → (st p a : List ℕ) → Recovery.Recovery
 back (Refused q) st p a = Recovery.refused q
@@ -112,15 +116,19 @@ kind-is : (k : Recovery.Kind) → kindBack (kindOf k) ≡ k
 kind-is Recovery.five = refl
 kind-is Recovery.fiveA = refl
 kind-is Recovery.eight = refl
+kind-is Recovery.nine = refl
 kind-is Recovery.ten = refl
 kind-is Recovery.tenA = refl
+kind-is Recovery.eleven = refl
 
 kind-of : (k : Kind) → kindOf (kindBack k) ≡ k
 kind-of Five = refl
 kind-of FiveA = refl
 kind-of Eight = refl
+kind-of Nine = refl
 kind-of Ten = refl
 kind-of TenA = refl
+kind-of Eleven = refl
 
 abbrev backFrom : Applied → Recovery.Recovery
 backFrom y = back (y .answer) (y .storage) (y .program) (y .restartArguments)

@@ -18,9 +18,10 @@ use Rattle.reading_cut.specs.declared.Went.{Went}
 use Rattle.reading_cut.specs.declared.Went.the-variants.{Again, Closed, Halted}
 use Rattle.reading_cut.specs.Entry.{entryBytes, stoppedNumber}
 
--- the chain and the restart areas
-pub record Lendable (chain program restartArguments : List ℕ) : Type 0 where
+-- the chain, storage and the restart areas
+pub record Lendable (chain storage program restartArguments : List ℕ) : Type 0 where
   pub chain-short : length chain ≤ 2048
+  pub storage-short : length storage ≤ 65536
   pub program-full : length program ≡ 64
   pub restart-arguments-full : length restartArguments ≡ 16
 

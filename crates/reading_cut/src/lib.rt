@@ -40,6 +40,7 @@ fn told_by(k: Cut) -> Told
         byte0: 0x08,
         byte1: 0,
         byte2: 0x40,
+        byte3: 0,
         head: 0,
         format: 0x53,
         track: at,
@@ -70,7 +71,7 @@ fn recover_cut(
     program: &mut [u8],
     restart_arguments: &mut [u8],
 ) -> Recovered
-    requires { ⌜ Lendable (now chain) (now program) (now «restart_arguments») ⌝ }
+    requires { ⌜ Lendable (now chain) (now storage) (now program) (now «restart_arguments») ⌝ }
     requires { ⌜ CutLow k ⌝ }
     ensures { λ r.
         let after = with r (now (storage .exit)) (now (program .exit)) (now («restart_arguments» .exit)) in
@@ -110,7 +111,7 @@ pub fn after_cut(
     restart_arguments: &mut [u8],
     entry: &mut [u8],
 ) -> Went
-    requires { ⌜ Lendable (now chain) (now program) (now «restart_arguments») ⌝ }
+    requires { ⌜ Lendable (now chain) (now storage) (now program) (now «restart_arguments») ⌝ }
     requires { ⌜ CutLow k ⌝ }
     requires { ⌜ 6 ≤ length (now entry) ⌝ }
     ensures { λ r.

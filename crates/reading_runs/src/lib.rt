@@ -47,7 +47,7 @@ pub fn read_on(
     list: &mut [u8],
 ) -> Over
     requires { ⌜ Begun (now chain) (now program) (now image) (now faults) ⌝ }
-    requires { ⌜ Lendable (now chain) (now program) (now «restart_arguments») ⌝ }
+    requires { ⌜ Lendable (now chain) (now storage) (now program) (now «restart_arguments») ⌝ }
     requires { ⌜ RanLow first ⌝ }
     requires { ⌜ limit ≤ 4096 ⌝ }
     requires { ⌜ limit * 6 ≤ length (now list) ⌝ }

@@ -73,14 +73,22 @@ module _ (chain : List ℕ) (size : ℕ) (t : Told) where
   unfolding Recovery.act pick
   acts-eight k d e f = by-code k 8 Recovery.actionEight d e (λ g r st. refl) (f size)
 
+  pub acts-nine : (k : ℕ) (d : Decision) → k ≡ 9 → Decides Recovery.actionNine chain size t d → By k d
+  unfolding Recovery.act pick
+  acts-nine k d e f = by-code k 9 Recovery.actionNine d e (λ g r st. refl) f
+
   pub acts-ten : (k : ℕ) (d : Decision) → k ≡ 10 → Acts Recovery.actionTen chain t d → By k d
   unfolding Recovery.act pick
   acts-ten k d e f = by-code k 10 Recovery.actionTen d e (λ g r st. refl) (f size)
 
-  pub acts-other : (k : ℕ) → (k ≡ 1 → ⊥) → (k ≡ 2 → ⊥) → (k ≡ 3 → ⊥) → (k ≡ 4 → ⊥) → (k ≡ 5 → ⊥) → (k ≡ 8 → ⊥) → (k ≡ 10 → ⊥)
+  pub acts-eleven : (k : ℕ) (d : Decision) → k ≡ 11 → Decides Recovery.actionEleven chain size t d → By k d
+  unfolding Recovery.act pick
+  acts-eleven k d e f = by-code k 11 Recovery.actionEleven d e (λ g r st. refl) f
+
+  pub acts-other : (k : ℕ) → (k ≡ 1 → ⊥) → (k ≡ 2 → ⊥) → (k ≡ 3 → ⊥) → (k ≡ 4 → ⊥) → (k ≡ 5 → ⊥) → (k ≡ 8 → ⊥) → (k ≡ 9 → ⊥) → (k ≡ 10 → ⊥) → (k ≡ 11 → ⊥)
       → By k (Answers (Refused Question.Action))
   unfolding Recovery.act applied done bounded
-  acts-other k n1 n2 n3 n4 n5 n8 n10 = λ rows x r st p a u m.
+  acts-other k n1 n2 n3 n4 n5 n8 n9 n10 n11 = λ rows x r st p a u m.
       sym (ap (λ q. applied q st p a)
       (pick-false _ _ (ne-eqb k 1 n1)
       ∙ pick-false _ _ (ne-eqb k 2 n2)
@@ -88,7 +96,9 @@ module _ (chain : List ℕ) (size : ℕ) (t : Told) where
       ∙ pick-false _ _ (ne-eqb k 4 n4)
       ∙ pick-false _ _ (ne-eqb k 5 n5)
       ∙ pick-false _ _ (ne-eqb k 8 n8)
-      ∙ pick-false _ _ (ne-eqb k 10 n10)))
+      ∙ pick-false _ _ (ne-eqb k 9 n9)
+      ∙ pick-false _ _ (ne-eqb k 10 n10)
+      ∙ pick-false _ _ (ne-eqb k 11 n11)))
 
   -- ---- the error table
 

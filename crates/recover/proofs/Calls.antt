@@ -55,6 +55,7 @@ module _ (chain storage program restartArguments extent : ℕ) where
 
   pub record Fitting : Type 0 where
     pub chain-short : chain ≤ 2048
+    pub storage-short : storage ≤ 65536
     pub program-full : program ≡ 64
     pub restart-arguments-full : restartArguments ≡ 16
     pub extent-full : extent ≡ 8
@@ -64,9 +65,11 @@ module _ (chain storage program restartArguments extent : ℕ) where
   areas-say h =
       let three = and-left (chainFits chain && storageFits storage && restartAreas program restartArguments) (eqb extent 8) h in
       let restart = and-right (chainFits chain && storageFits storage) (restartAreas program restartArguments) three in
-      let first = and-left (chainFits chain) (storageFits storage) (and-left (chainFits chain && storageFits storage) (restartAreas program restartArguments) three) in
+      let two = and-left (chainFits chain && storageFits storage) (restartAreas program restartArguments) three in
+      let first = and-left (chainFits chain) (storageFits storage) two in
       record {
         chain-short = leb-true _ _ (and-right (leb 8 chain) (leb chain 2048) (and-left (leb 8 chain && leb chain 2048) _ first));
+        storage-short = leb-true _ _ (and-right (chainFits chain) (leb storage 65536) two);
         program-full = eqb-true _ _ (and-left (programFits program) (restartArgumentsFit restartArguments) restart);
         restart-arguments-full = eqb-true _ _ (and-right (programFits program) (restartArgumentsFit restartArguments) restart);
         extent-full = eqb-true _ _ (and-right (chainFits chain && storageFits storage && restartAreas program restartArguments) (eqb extent 8) h);

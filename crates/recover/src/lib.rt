@@ -28,6 +28,7 @@ fn tried(tries: usize, limit: usize) -> Recovered
 // What an action decides, by its code.
 fn act(k: u8, chain: &[u8], size: usize, t: Told) -> Decision
     requires { ⌜ length (now chain) ≤ 2048 ⌝ }
+    requires { ⌜ size ≤ 65536 ⌝ }
     requires { ⌜ ToldLow t ⌝ }
     ensures { λ r. ⌜ ActsBy k (now (chain .entry)) size t r ⌝ }
     ensures { λ r. ⌜ GoesLow r ⌝ }
@@ -50,8 +51,14 @@ fn act(k: u8, chain: &[u8], size: usize, t: Told) -> Decision
     if k == 8 {
         return action_eight_ten::eight(chain, t);
     }
+    if k == 9 {
+        return action_nine_eleven::nine(chain, size, t);
+    }
     if k == 10 {
         return action_eight_ten::ten(chain, t);
+    }
+    if k == 11 {
+        return action_nine_eleven::eleven(chain, size, t);
     }
     Decision::Answers(Recovered::Refused(Question::Action))
 }
@@ -67,6 +74,7 @@ fn choose(t: Told) -> Chosen
 // Questions 6 to 9 and the actions: what is decided with storage of `size` bytes, by what a report tells, in an extent.
 fn decide(chain: &[u8], size: usize, t: Told, x: Extent) -> Decision
     requires { ⌜ length (now chain) ≤ 2048 ⌝ }
+    requires { ⌜ size ≤ 65536 ⌝ }
     requires { ⌜ ToldLow t ⌝ }
     ensures { λ r. ⌜ DecidesIn x (now (chain .entry)) size t r ⌝ }
     ensures { λ r. ⌜ DecisionLow r ⌝ }
@@ -87,6 +95,7 @@ pub fn recover_told(
     restart_arguments: &mut [u8],
 ) -> Recovered
     requires { ⌜ length (now chain) ≤ 2048 ⌝ }
+    requires { ⌜ length (now storage) ≤ 65536 ⌝ }
     requires { ⌜ ToldLow t ⌝ }
     requires { ⌜ length (now program) ≡ 64 ⌝ }
     requires { ⌜ length (now «restart_arguments») ≡ 16 ⌝ }

@@ -8,7 +8,7 @@ use Rattle.recovery.specs.Table.{Row}
 use Rattle.recovery.specs.Recovery as Recovery
 use Rattle.recovery.specs.Recovery.{Given}
 use Rattle.recovered.specs.declared.Kind.{Kind}
-use Rattle.recovered.specs.declared.Kind.the-variants.{Five, FiveA, Eight, Ten, TenA}
+use Rattle.recovered.specs.declared.Kind.the-variants.{Five, FiveA, Eight, Nine, Ten, TenA, Eleven}
 use Rattle.recovered.specs.declared.Recovered.{Recovered}
 use Rattle.recovered.specs.declared.Recovered.the-variants.{Refused, ActionOne, ActionTwo, Repeat, CorrectedOnly, Finished, Restart}
 
@@ -17,16 +17,20 @@ abbrev pub kindOf : Recovery.Kind → Kind
 kindOf Recovery.five = Five
 kindOf Recovery.fiveA = FiveA
 kindOf Recovery.eight = Eight
+kindOf Recovery.nine = Nine
 kindOf Recovery.ten = Ten
 kindOf Recovery.tenA = TenA
+kindOf Recovery.eleven = Eleven
 
 -- the action of a restart: its number, and 16 more for an A
 abbrev pub actionNumber : Kind → ℕ
 actionNumber Five = 0x05
 actionNumber FiveA = 0x15
 actionNumber Eight = 0x08
+actionNumber Nine = 0x09
 actionNumber Ten = 0x0a
 actionNumber TenA = 0x1a
+actionNumber Eleven = 0x0b
 
 -- An answer, with storage and the two restart areas behind it.
 pub record Applied : Type 0 where

@@ -20,8 +20,10 @@ pub enum Kind {
     Five,
     FiveA,
     Eight,
+    Nine,
     Ten,
     TenA,
+    Eleven,
 }
 
 // What recovery answers: a refusal; action 1 or 2; the chain is to be run again; storage was corrected and no more; it was
@@ -44,8 +46,10 @@ pub fn action_number(k: Kind) -> u8
         Kind::Five => 0x05,
         Kind::FiveA => 0x15,
         Kind::Eight => 0x08,
+        Kind::Nine => 0x09,
         Kind::Ten => 0x0a,
         Kind::TenA => 0x1a,
+        Kind::Eleven => 0x0b,
     }
 }
 

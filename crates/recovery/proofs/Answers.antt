@@ -18,6 +18,7 @@ use Rattle.channel.specs.declared.Fetched.the-variants.{Got, Broken}
 use Rattle.channel.specs.Ccw.{fetchIn}
 use Rattle.channel.specs.Walk.{Walk, walked, checked}
 use Rattle.drive.specs.Command.{commandOf}
+use Rattle.restart.specs.declared.LastTic.{LastTic}
 use Rattle.recovery.specs.Report.{Report}
 use Rattle.recovery.specs.Recovery as Recovery
 use Rattle.recovery.specs.Recovery.{Recovery, Kind, Given, refused, actionOne, actionTwo, repeats, correctedOnly, finished, restarts, five, fiveA, onNext, sensible, correction}
@@ -82,12 +83,26 @@ module _ (P : Recovery → Type 0) (g : Given) (r : Report) (st : List ℕ) (ref
         (λ a c.
         both P _ (both P _ (next-by _ _ _ (λ to d. home-by _ _ _)) (refuses _)) (either P _ (refuses _) (λ b. home-by _ _ _)))
 
+    overflow-restart-by : (k : Kind) (a : Address) (c : Ccw) (tic : LastTic) → P (Recovery.overflowRestart g r st k a c tic)
+    unfolding Recovery.overflowRestart
+    overflow-restart-by k a c tic = both P _ (restarting k _ _) second
+
+    overflow-walk-by : (k : Kind) (a : Address) (w : Walk) → P (Recovery.overflowWalk g r st k a w)
+    unfolding Recovery.overflowWalk Recovery.fromInterrupted
+    overflow-walk-by k a (checked ps l) = refuses _
+    overflow-walk-by k a (walked ps l c left over) =
+        both P _ (both P _ (next-by _ _ _ (λ to d. overflow-restart-by _ _ _ _)) (overflow-restart-by _ _ _ _)) (refuses _)
+
+    overflow-by : (k : Kind) (track : Address → Option Address) → P (Recovery.overflow g r st k track)
+    unfolding Recovery.overflow Recovery.overflowAt
+    overflow-by k track = either P _ (refuses _) (λ u. either P _ (refuses _) (λ a. either P _ (refuses _) (λ c. overflow-walk-by k a _)))
+
     tried-by : (n : ℕ) → P (Recovery.tried g r st n)
     unfolding Recovery.tried
     tried-by n = both P _ again first
 
     pub recover-by : P (Recovery.actionFive g r st) → P (Recovery.recover g r st)
-    unfolding Recovery.recover Recovery.act Recovery.actionEight
+    unfolding Recovery.recover Recovery.act Recovery.actionEight Recovery.actionNine Recovery.actionEleven
     recover-by h =
         either P _ (refuses _)
         (λ k.
@@ -95,4 +110,6 @@ module _ (P : Recovery → Type 0) (g : Given) (r : Report) (st : List ℕ) (ref
         (both P _ second
         (both P _ (tried-by 1)
         (both P _ (tried-by 10)
-        (both P _ h (both P _ (track-by _ (λ a c. home-by _ _ _)) (both P _ ten-by (refuses _))))))))
+        (both P _ h
+        (both P _ (track-by _ (λ a c. home-by _ _ _))
+        (both P _ (overflow-by _ _) (both P _ ten-by (both P _ (overflow-by _ _) (refuses _))))))))))

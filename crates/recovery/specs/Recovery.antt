@@ -1,5 +1,5 @@
--- Recovery from one report (document 01, "Actions built" and "The questions"; document 02, multitrack reads and the
--- head reached).
+-- Recovery from one report (document 01, "Actions built" and "The questions"; document 02, multitrack reads, the head reached,
+-- and overflow actions 9 and 11).
 use Prim.Native.Nat.{ℕ, _+_, _-_, _%_}
 use mathlib.Core.Bool.{Bool, true, false, _&&_, _||_, not}
 use mathlib.Core.Option.{Option, none, some}
@@ -21,7 +21,7 @@ use Rattle.channel.specs.declared.Location.the-variants.{Chain, Restart}
 use Rattle.channel.specs.declared.Fetched.{Fetched}
 use Rattle.channel.specs.declared.Fetched.the-variants.{Got, Broken}
 use Rattle.channel.specs.declared.Csw.{Csw}
-use Rattle.channel.specs.Ccw.{Lent, chainsCommand, isTic, addressOf, next, fetchIn, resolve}
+use Rattle.channel.specs.Ccw.{Lent, chainsData, chainsCommand, isTic, addressOf, next, fetchIn, resolve}
 use Rattle.channel.specs.Csw.{unitCheck}
 use Rattle.channel.specs.Walk.{Walk, walked, checked, walk, readable, incorrectLength}
 use Rattle.drive.specs.declared.Command.{Command}
@@ -30,14 +30,16 @@ use Rattle.drive.specs.declared.FileMask.{FileMask}
 use Rattle.drive.specs.declared.FileMask.the-variants.{Unset, Set}
 use Rattle.drive.specs.Command.{commandOf}
 use Rattle.drive.specs.Step.{sought, spread}
-use Rattle.restart.specs.Restart.{ccwBytes, programOf, countFor, searchProgram, restartArgumentsOf, searchArguments}
+use Rattle.restart.specs.declared.LastTic.{LastTic}
+use Rattle.restart.specs.declared.LastTic.the-variants.{To, Absent}
+use Rattle.restart.specs.Restart.{ccwBytes, programOf, countFor, searchProgram, restCcw, overflowProgram, restartArgumentsOf, searchArguments}
 use Rattle.recovery.specs.Table.{Row, actionFor}
 use Rattle.recovery.specs.Report.{Report}
 use Rattle.recovery.specs.Correct.{corrected}
 
 -- Which restart was built.
 pub data Kind : Type 0 where
-  five fiveA eight ten tenA : Kind
+  five fiveA eight nine ten tenA eleven : Kind
 
 -- What recovery answers. Areas that an answer does not name keep their bytes.
 pub data Recovery : Type 0 where
@@ -132,7 +134,11 @@ cutTrack sense = record { cylinder = be16At sense 8; head = be16At sense 10 }
 unfoldable pub agrees : Csw → Location → ℕ → Bool → Bool
 agrees w l left wrong = eqb (w .address) (addressOf l + 8) && eqb (w .count) left && alike (bitOn 1 (w .channel)) wrong
 
--- ---- tracks and seeks of 8, 10 and 10A
+-- "that ends .. at the CSW's CCW and count, not 0"
+unfoldable pub cutInside : Csw → Location → ℕ → Bool
+cutInside w l left = eqb (w .address) (addressOf l + 8) && eqb (w .count) left && not (eqb left 0)
+
+-- ---- tracks and seeks of 8 to 11
 
 -- "cylinder plus 1, head 0"
 abbrev pub nextCylinder : Address → Address
@@ -149,6 +155,10 @@ reachedHead sense = getD sense 6 0 % 32
 -- "For 10A the cylinder comes from the user's argument and the head from sense byte 6"; "A head above 18 there means that report and chain disagree"
 unfoldable pub reachedTrack : (sense : List ℕ) → Address → Option Address
 reachedTrack sense a = pick (leb (reachedHead sense) 18) (some (record { cylinder = a .cylinder; head = reachedHead sense })) none
+
+-- "Build .. 11 as 10A": the track behind that one
+unfoldable pub behindReached : (sense : List ℕ) → Address → Option Address
+behindReached sense a = opt (reachedTrack sense a) none (λ b. some (nextTrack b))
 
 -- "If that CCW is a seek"
 unfoldable pub isSeek : Command → Bool
@@ -246,13 +256,57 @@ module _ (g : Given) (r : Report) (st : List ℕ) where
   unfoldable pub actionTen : Recovery
   actionTen = withTrack (λ a c. pick (isSeek (commandOf (c .command))) (seekRestart a c) (reachedRestart a))
 
+  -- ---- actions 9 and 11
+
+  -- "tag 12 as action 5 does, sense 3 = 06": the read's first CCW
+  unfoldable pub overflowRead : Option Ccw
+  overflowRead =
+      opt (fetchIn (g .chain) (r .first)) none
+      (λ c. pick (readsData (commandOf (c .command)) && eqb (getD (r .sense) 3 0) 0x06) (some c) none)
+
+  -- "Build 9 as 8 and 11 as 10A, with restart CCW 1 before the last TIC."; "A seek outside the extent gives action 2."
+  unfoldable pub overflowRestart : Kind → Address → Ccw → LastTic → Recovery
+  overflowRestart k a c tic =
+      pick (seekAllowed g a)
+      (restarts k (overflowProgram (r .mask) (restCcw c (r .csw .count)) tic) (restartArgumentsOf a (r .mask) 0 []) st)
+      actionTwo
+
+  -- "The last TIC, to the next non-TIC CCW (none is number 9), stands only where the interrupted CCW chains."
+  unfoldable pub fromInterrupted : Kind → Address → Location → Ccw → Recovery
+  fromInterrupted k a l c =
+      pick (chainsData c || chainsCommand c)
+      (onNext (resolve (onlyChain (g .chain)) l (next l)) (refused Question.Agreement) (λ to d. overflowRestart k a c (To to)))
+      (overflowRestart k a c Absent)
+
+  -- "from tag 12 a walk of the restart displacement that ends without program check at the CSW's CCW and count, not 0; else number 9"
+  unfoldable pub overflowWalk : Kind → Address → Walk → Recovery
+  overflowWalk k a (checked ps l) = refused Question.Agreement
+  overflowWalk k a (walked ps l c left over) = pick (cutInside (r .csw) l left) (fromInterrupted k a l c) (refused Question.Agreement)
+
+  -- the restart to the track a
+  unfoldable pub overflowAt : Kind → Address → Recovery
+  overflowAt k a = opt overflowRead (refused Question.Agreement) (λ c. overflowWalk k a (retrace c))
+
+  -- "They need tag 14 as action 8 does": the restart to the track that comes of the user's
+  unfoldable pub overflow : Kind → (Address → Option Address) → Recovery
+  overflow k track =
+      opt (userTrack (g .last) (r .seek)) (refused Question.Agreement) (λ u. opt (track u) (refused Question.Agreement) (overflowAt k))
+
+  -- "9 as 8": "Seek argument with cylinder plus 1, head 0"
+  unfoldable pub actionNine : Recovery
+  actionNine = overflow nine (λ u. some (nextCylinder u))
+
+  -- "11 as 10A"
+  unfoldable pub actionEleven : Recovery
+  actionEleven = overflow eleven (behindReached (r .sense))
+
   -- ---- the action
 
   -- "3 repeats if tries are 0, 4 if under 10, else 1."
   unfoldable pub tried : ℕ → Recovery
   tried limit = pick (ltb (r .tries) limit) repeats actionOne
 
-  -- question 7: "Is the action other than 6, 6A, 7, 9, 11?"
+  -- question 7: "Number 7 remains for 6, 6A and 7."
   unfoldable pub act : ℕ → Recovery
   act k =
       pick (eqb k 1) actionOne
@@ -261,8 +315,10 @@ module _ (g : Given) (r : Report) (st : List ℕ) where
       (pick (eqb k 4) (tried 10)
       (pick (eqb k 5) actionFive
       (pick (eqb k 8) actionEight
+      (pick (eqb k 9) actionNine
       (pick (eqb k 10) actionTen
-      (refused Question.Action)))))))
+      (pick (eqb k 11) actionEleven
+      (refused Question.Action)))))))))
 
   -- question 6: "Does a row match?"
   unfoldable pub recover : Recovery

@@ -10,7 +10,7 @@ use Rattle.channel.specs.declared.Ccw.{Ccw}
 use Rattle.channel.specs.Ccw.{fetchIn}
 use Rattle.channel.specs.Walk.{Walk, walked, checked}
 use Rattle.recovery.specs.Report.{Report}
-use Rattle.recovery.specs.Recovery.{Kind, five, fiveA, eight, ten, tenA, Recovery, refused, actionOne, actionTwo, repeats, correctedOnly, finished, restarts, Given, errorDisplacement, patternFrom, retrace, recover}
+use Rattle.recovery.specs.Recovery.{Kind, five, fiveA, eight, nine, ten, tenA, eleven, Recovery, refused, actionOne, actionTwo, repeats, correctedOnly, finished, restarts, Given, errorDisplacement, patternFrom, retrace, recover}
 
 -- storage behind an answer: "Areas not named by an answer keep their bytes."
 unfoldable pub storageBehind : Recovery → List ℕ → List ℕ
@@ -27,8 +27,10 @@ unfoldable pub ofFive : Kind → Bool
 ofFive five = true
 ofFive fiveA = true
 ofFive eight = false
+ofFive nine = false
 ofFive ten = false
 ofFive tenA = false
+ofFive eleven = false
 
 -- an action 5 that corrects: "corrected only", "finished", and its restarts
 unfoldable pub corrects : Recovery → Bool

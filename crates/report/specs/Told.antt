@@ -46,6 +46,7 @@ pub record SenseTells (s : List ℕ) (t : Sense) : Type 0 where
   pub byte0 : getD s 0 0 ≡ t .byte0
   pub byte1 : getD s 1 0 ≡ t .byte1
   pub byte2 : getD s 2 0 ≡ t .byte2
+  pub byte3 : getD s 3 0 ≡ t .byte3
   pub head : reachedHead s ≡ t .head
   pub format : getD s 7 0 ≡ t .format
   pub track : cutTrack s ≡ t .track

@@ -179,6 +179,7 @@ pub struct Sense {
     pub byte0: u8,
     pub byte1: u8,
     pub byte2: u8,
+    pub byte3: u8,
     pub format: u8,
     pub number: u8,
     pub sector: u8,
@@ -250,6 +251,7 @@ fn sense_of(sense: &[u8]) -> Sense
         byte0: sense[0],
         byte1: sense[1],
         byte2: sense[2],
+        byte3: sense[3],
         head: reached_head(sense[6]),
         format: sense[7],
         track: Address {

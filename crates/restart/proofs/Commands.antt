@@ -152,7 +152,7 @@ module _ (w : Setting) (a : Address) (sector r to : ℕ) where
   lent m counts = restarted w a m sector r counts to .lent
 
   pub fetches : (m : FileMask) (counts : ReadCount) → Fetches (lent m counts) m counts to
-  unfolding pick two three Ccw.fetch Ccw.fetchIn Ccw.ccwAt Program.ccwBytes Program.ticTo Program.padded Program.maskCcw Program.programOf Program.searchAddress Program.countCcw Program.searching Program.searchProgram
+  unfolding pick two three Ccw.fetch Ccw.fetchIn Ccw.ccwAt Program.ccwBytes Program.ticTo Program.padded Program.maskCcw Program.programOf Program.programEnding Program.searchAddress Program.countCcw Program.searching Program.searchProgram
   fetches Unset Omitted = record { seek = refl; sector = refl; search = refl; again = refl; last = tic-bytes to }
   fetches Unset Single = record { seek = refl; sector = refl; search = refl; again = refl; last = tic-bytes to }
   fetches Unset Multitrack = record { seek = refl; sector = refl; search = refl; again = refl; last = tic-bytes to }
@@ -161,18 +161,18 @@ module _ (w : Setting) (a : Address) (sector r to : ℕ) where
   fetches (Set b) Multitrack = record { seek = refl; sector = refl; search = refl; again = refl; last = tic-bytes to }
 
   pub fetch-mask : (b : ℕ) (counts : ReadCount) → fetch (lent (Set b) counts) (Restart 8) ≡ some maskCcw
-  unfolding pick two three Ccw.fetch Ccw.fetchIn Ccw.ccwAt Program.ccwBytes Program.ticTo Program.padded Program.maskCcw Program.programOf Program.searchAddress Program.countCcw Program.searching Program.searchProgram
+  unfolding pick two three Ccw.fetch Ccw.fetchIn Ccw.ccwAt Program.ccwBytes Program.ticTo Program.padded Program.maskCcw Program.programOf Program.programEnding Program.searchAddress Program.countCcw Program.searching Program.searchProgram
   fetch-mask b Omitted = refl
   fetch-mask b Single = refl
   fetch-mask b Multitrack = refl
 
   pub fetch-count : (m : FileMask) → fetch (lent m Single) (Restart (countAt m)) ≡ some (countCcw 0x12)
-  unfolding pick two three Ccw.fetch Ccw.fetchIn Ccw.ccwAt Program.ccwBytes Program.ticTo Program.padded Program.maskCcw Program.programOf Program.searchAddress Program.countCcw Program.searching Program.searchProgram
+  unfolding pick two three Ccw.fetch Ccw.fetchIn Ccw.ccwAt Program.ccwBytes Program.ticTo Program.padded Program.maskCcw Program.programOf Program.programEnding Program.searchAddress Program.countCcw Program.searching Program.searchProgram
   fetch-count Unset = refl
   fetch-count (Set b) = refl
 
   pub fetch-count-multitrack : (m : FileMask) → fetch (lent m Multitrack) (Restart (countAt m)) ≡ some (countCcw 0x92)
-  unfolding pick two three Ccw.fetch Ccw.fetchIn Ccw.ccwAt Program.ccwBytes Program.ticTo Program.padded Program.maskCcw Program.programOf Program.searchAddress Program.countCcw Program.searching Program.searchProgram
+  unfolding pick two three Ccw.fetch Ccw.fetchIn Ccw.ccwAt Program.ccwBytes Program.ticTo Program.padded Program.maskCcw Program.programOf Program.programEnding Program.searchAddress Program.countCcw Program.searching Program.searchProgram
   fetch-count-multitrack Unset = refl
   fetch-count-multitrack (Set b) = refl
 

@@ -1,5 +1,5 @@
--- Restart programs and their arguments (document 01, "Actions built"; document 02, the read count of 5A).
-use Prim.Native.Nat.{ℕ}
+-- Restart programs and their arguments (document 01, "Actions built"; document 02, the read count of 5A, and restart CCW 1 of 9 and 11).
+use Prim.Native.Nat.{ℕ, _+_, _-_}
 use mathlib.Core.Bool.{Bool, _||_}
 use mathlib.Core.List.{List, [], _∷_, _++_}
 use lib.Dec.{eqb}
@@ -8,11 +8,15 @@ use Rattle.base.specs.Choice.{pick}
 use Rattle.base.specs.Bits.{bitOn}
 use Rattle.base.specs.Bytes.{two, three}
 use Rattle.address.specs.declared.Address.{Address}
+use Rattle.channel.specs.declared.Ccw.{Ccw}
+use Rattle.channel.specs.Ccw.{skips}
 use Rattle.drive.specs.declared.FileMask.{FileMask}
 use Rattle.drive.specs.declared.FileMask.the-variants.{Unset, Set}
 use Rattle.drive.specs.Drive.{addressBytes}
 use Rattle.restart.specs.declared.ReadCount.{ReadCount}
 use Rattle.restart.specs.declared.ReadCount.the-variants.{Omitted, Single, Multitrack}
+use Rattle.restart.specs.declared.LastTic.{LastTic}
+use Rattle.restart.specs.declared.LastTic.the-variants.{To, Absent}
 
 -- "CCW: command, address 3, flags .., ignored byte, count 2"; the ignored byte is 0
 unfoldable pub ccwBytes : (command address flags count : ℕ) → List ℕ
@@ -31,11 +35,15 @@ unfoldable pub maskCcw : FileMask → List ℕ
 maskCcw Unset = []
 maskCcw (Set m) = ccwBytes 0x1f 0x2006 0x40 1
 
--- "seek .., mask (omitted if none), sector ..", then what finds the place again, then a "TIC to" the chain.
+-- "seek .., mask (omitted if none), sector ..", then what finds the place again, then what goes on from there.
 -- "Flags 40 except as said"; "Arguments: seek at 2000, mask 2006, sector 2007, ID 2008."
+unfoldable pub programEnding : FileMask → (finding last : List ℕ) → List ℕ
+programEnding m finding last =
+    padded 64 (ccwBytes 0x07 0x2000 0x40 6 ++ maskCcw m ++ ccwBytes 0x23 0x2007 0x40 1 ++ finding ++ last)
+
+-- with a "TIC to" the chain
 unfoldable pub programOf : FileMask → List ℕ → ℕ → List ℕ
-programOf m finding to =
-    padded 64 (ccwBytes 0x07 0x2000 0x40 6 ++ maskCcw m ++ ccwBytes 0x23 0x2007 0x40 1 ++ finding ++ ticTo to)
+programOf m finding to = programEnding m finding (ticTo to)
 
 -- the address of the CCW behind the sector's
 unfoldable pub searchAddress : FileMask → ℕ
@@ -69,6 +77,30 @@ searching m counts = ccwBytes 0x31 0x2008 0x40 5 ++ ticTo (searchAddress m) ++ c
 -- the restart program of 5, and with a read count that of 5A
 unfoldable pub searchProgram : FileMask → ReadCount → ℕ → List ℕ
 searchProgram m counts to = programOf m (searching m counts) to
+
+-- ---- restart CCW 1
+
+-- "Restart CCW 1 is a 06 with the interrupted CCW's flags, the CSW's count left, and that CCW's address plus the bytes it has taken (under skip
+-- unchanged)."
+unfoldable pub restCcw : Ccw → (left : ℕ) → Ccw
+restCcw c left = record {
+  command = 0x06;
+  address = pick (skips c) (c .address) (c .address + (c .count - left));
+  flags = c .flags;
+  count = left;
+}
+
+-- "The last TIC .. stands only where the interrupted CCW chains."
+unfoldable pub ticCcw : LastTic → List ℕ
+ticCcw Absent = []
+ticCcw (To to) = ticTo to
+
+-- the restart program of 9 and 11: "1A (flags 50, count 5)", "with restart CCW 1 before the last TIC"
+unfoldable pub overflowProgram : FileMask → (first : Ccw) → LastTic → List ℕ
+overflowProgram m first tic =
+    programEnding m (ccwBytes 0x1a 0 0x50 5 ++ ccwBytes (first .command) (first .address) (first .flags) (first .count)) (ticCcw tic)
+
+-- ---- arguments
 
 -- a mask that was not set is 0
 unfoldable pub maskByte : FileMask → ℕ

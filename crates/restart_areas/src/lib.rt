@@ -1,14 +1,17 @@
 // The restart areas, byte by byte: a restart program of 64 bytes, and its arguments, 16 bytes. Unused bytes are 0.
 use address::Address;
+use channel::Ccw;
 use drive::FileMask;
+use restart::LastTic;
 use restart::ReadCount;
 ghost use mathlib.Core.List.{[]};
 ghost use mathlib.Core.Path.{_≡_};
 ghost use Prim.Native.Nat.{_+_, _<_, _≤_};
 ghost use lib.ListN.{length, replicate};
+ghost use Rattle.channel.specs.Fetch.{InBytes};
 ghost use Rattle.drive.specs.Drive.{addressBytes};
-ghost use Rattle.restart.specs.Restart.{ccwBytes, programOf, searchProgram, maskByte, restartArgumentsOf, searchArguments};
-ghost use Rattle.restart_areas.specs.Placed.{placed, begun, begunTo};
+ghost use Rattle.restart.specs.Restart.{ccwBytes, programOf, searchProgram, overflowProgram, maskByte, restartArgumentsOf, searchArguments};
+ghost use Rattle.restart_areas.specs.Placed.{placed, begun, begunTo, TicLow};
 
 fn clear(area: &mut [u8])
     ensures { λ _. ⌜ now (area .exit) ≡ replicate (length (now (area .entry))) 0 ⌝ }
@@ -108,6 +111,31 @@ pub fn home_program(program: &mut [u8], mask: FileMask, to: usize)
     put_ccw(program, at + 8, 0x08, to, 0, 0);
 }
 
+// The restart program of actions 9 and 11: the home address, restart CCW 1, and the last TIC if there is one.
+pub fn overflow_program(program: &mut [u8], mask: FileMask, first: Ccw, tic: LastTic)
+    requires { ⌜ length (now program) ≡ 64 ⌝ }
+    requires { ⌜ InBytes first ⌝ }
+    requires { ⌜ TicLow tic ⌝ }
+    ensures { λ _. ⌜ now (program .exit) ≡ overflowProgram mask first tic ⌝ }
+{
+    let at = begin(program, mask);
+    put_ccw(program, at, 0x1a, 0, 0x50, 5);
+    put_ccw(
+        program,
+        at + 8,
+        first.command,
+        first.address,
+        first.flags,
+        first.count,
+    );
+    match tic {
+        LastTic::Absent => {}
+        LastTic::To(to) => {
+            put_ccw(program, at + 16, 0x08, to, 0, 0);
+        }
+    }
+}
+
 // Cylinder and head, two bytes each.
 fn put_address(restart_arguments: &mut [u8], at: usize, a: Address)
     requires { ⌜ at + 4 ≤ length (now «restart_arguments») ⌝ }
@@ -133,7 +161,7 @@ fn mask_byte(mask: FileMask) -> u8
     }
 }
 
-// The arguments of seek, mask and sector: with sector 0, the restart arguments of actions 8, 10 and 10A.
+// The arguments of seek, mask and sector: with sector 0, the restart arguments of actions 8 to 11.
 pub fn begin_arguments(restart_arguments: &mut [u8], a: Address, mask: FileMask, sector: u8)
     requires { ⌜ length (now «restart_arguments») ≡ 16 ⌝ }
     requires { ⌜ a .cylinder < 65536 ⌝ }

@@ -55,6 +55,14 @@ module _ (chain arguments storage image faults extent limit program restartArgum
         let few = and-right (chainFits chain && argumentsFit arguments && storageFits storage && imageFits image && faultsFit faults) (limitFits limit) e in
         leb-true limit 4096 (and-right (leb 1 limit) (leb limit 4096) few)
 
+    storage-low : storage ≤ 65536
+    unfolding runAreas
+    storage-low =
+        let five = and-left (chainFits chain && argumentsFit arguments && storageFits storage && imageFits image && faultsFit faults) (limitFits limit) e in
+        let four = and-left (chainFits chain && argumentsFit arguments && storageFits storage && imageFits image) (faultsFit faults) five in
+        let three = and-left (chainFits chain && argumentsFit arguments && storageFits storage) (imageFits image) four in
+        leb-true storage 65536 (and-right (chainFits chain && argumentsFit arguments) (storageFits storage) three)
+
     pub extent-not : eqb extent 8 ≡ false → false ≡ fits
     unfolding readingAreas
     extent-not f = rw (e, f)
@@ -70,6 +78,7 @@ module _ (chain arguments storage image faults extent limit program restartArgum
 
   pub record Fitting : Type 0 where
     pub chain-short : chain ≤ 2048
+    pub storage-short : storage ≤ 65536
     pub extent-full : extent ≡ 8
     pub few : limit ≤ 4096
     pub program-full : program ≡ 64
@@ -86,6 +95,7 @@ module _ (chain arguments storage image faults extent limit program restartArgum
       let one = and-left run (eqb extent 8) two in
       record {
         chain-short = short-chain _ _ _ _ _ _ one;
+        storage-short = storage-low one;
         extent-full = eqb-true _ _ (and-right run (eqb extent 8) two);
         few = limit-low one;
         program-full = eqb-true _ _ (and-left (programFits program) (restartArgumentsFit restartArguments) restart);

@@ -4,12 +4,18 @@ use super::{Comparison, Disagreement, Left, Sides};
 use crate::arena::Arena;
 use crate::in_place;
 use crate::library::{self, RecoveryAreas, RestartAreas, ACTION_5, ACTION_5A};
+use crate::overflow_marks;
 use crate::random::Random;
 use crate::recovery_marks::{marks_of, RecoveryMark};
 use crate::reports::GeneratedRecovery;
+use crate::rest_of_read::InterruptedRead;
 use crate::simulator::held::RECOVERY_ANSWER;
-use crate::simulator::recovery::{recover, Answer, Areas, Lent, RestartAction};
-use crate::simulator::LAST_CYLINDER;
+use crate::simulator::recovery::{
+    recover, recover_without_overflow, Answer, Areas, Lent, Recovered, RestartAction,
+};
+use crate::simulator::report::Report;
+use crate::simulator::table::{row_of, Action, TABLE};
+use crate::simulator::{Refusal, LAST_CYLINDER};
 use crate::tally::RECOVER;
 
 /// The areas of a recovery, in the order in which they are held here.
@@ -23,13 +29,16 @@ const NAMES: [&str; 7] = [
     "answer",
 ];
 const STORAGE: usize = 3;
+const PROGRAM: usize = 4;
 const ANSWER: usize = 6;
 
 type RecoveryArena = Arena<7>;
 pub(super) type RecoveryLeft = Left<7>;
 
 impl Comparison {
-    /// Compares the answer, all areas and the bytes around them.
+    /// Compares the answer, all areas and the bytes around them, where no row gives 9 or 11 also with what
+    /// the simulator does without these actions; then asks for the rest of the read behind a restart by
+    /// one of them.
     pub fn recovery(
         &mut self,
         kind: &'static str,
@@ -45,7 +54,8 @@ impl Comparison {
         recovery: &GeneratedRecovery,
     ) -> Result<(RecoveryLeft, Option<Answer>), Disagreement> {
         let lent = lend(&mut Random::new(self.tally.compared), recovery);
-        let (by_simulator, answer) = self.recovered_by_simulator(recovery, lent.clone());
+        let (by_simulator, recovered) = by_simulator(lent.clone(), recover);
+        self.count_marks(recovery, &by_simulator, recovered.as_ref());
         let sides = Sides {
             names: &NAMES,
             limit: None,
@@ -53,8 +63,12 @@ impl Comparison {
             by_simulator,
             lent,
         };
+        let answer = recovered.and_then(|recovered| recovered.ok());
+        let answer = answer.map(|recovered| recovered.answer);
         let wrong = match sides.agree() {
-            true => in_place::wrong(changed(&sides), corrects(&sides.by_library)),
+            true => in_place::wrong(changed(&sides), corrects(&sides.by_library))
+                .or_else(|| wrong_beside_no_overflow(&sides))
+                .or_else(|| wrong_rest(recovery, answer.as_ref(), &sides.by_library)),
             false => Some("disagreement"),
         };
         if let Some(wrong) = wrong {
@@ -64,40 +78,94 @@ impl Comparison {
         Ok((sides.by_library, answer))
     }
 
-    fn recovered_by_simulator(
+    fn count_marks(
         &mut self,
         recovery: &GeneratedRecovery,
-        mut arena: RecoveryArena,
-    ) -> (RecoveryLeft, Option<Answer>) {
-        let [chain, report, extent, storage, program, restart_arguments, answer] = arena.lent();
-        if answer.len() != RECOVERY_ANSWER {
-            let mark = RecoveryMark::AnswerArea(answer.len());
+        left: &RecoveryLeft,
+        recovered: Option<&Recovery>,
+    ) {
+        let Some(recovered) = recovered else {
+            let mark = RecoveryMark::AnswerArea(recovery.answer_length);
             self.tally.count_recovery_marks([mark]);
-            return (Left { number: 1, arena }, None);
-        }
-        let lent = Lent {
-            chain,
-            report,
-            extent,
+            self.tally.overflow.count(None);
+            return;
         };
-        let areas = Areas {
-            storage,
-            program,
-            restart_arguments,
-        };
-        let recovered = recover(lent, areas, LAST_CYLINDER);
-        let changed = in_place::changed(&recovery.storage, storage);
-        let marks = marks_of(recovery, &recovered, changed);
+        let changed = in_place::changed(&recovery.storage, left.arena.areas()[STORAGE]);
+        let marks = marks_of(recovery, recovered, changed);
         self.tally.count_recovery_marks(marks);
-        let (number, answered) = match recovered {
-            Ok(recovered) => {
-                answer.copy_from_slice(&written(&recovered.answer));
-                (library::ANSWERED, Some(recovered.answer))
-            }
-            Err(refusal) => (refusal.number(), None),
-        };
-        (Left { number, arena }, answered)
+        let overflow = overflow_marks::marks_of(recovery, recovered);
+        self.tally.overflow.count(overflow);
     }
+}
+
+type Recovery = Result<Recovered, Refusal>;
+
+/// Nothing is told of the recovery where the area to answer in has another length.
+fn by_simulator(
+    mut arena: RecoveryArena,
+    recover: fn(Lent, Areas, u16) -> Recovery,
+) -> (RecoveryLeft, Option<Recovery>) {
+    let [chain, report, extent, storage, program, restart_arguments, answer] = arena.lent();
+    if answer.len() != RECOVERY_ANSWER {
+        return (Left { number: 1, arena }, None);
+    }
+    let lent = Lent {
+        chain,
+        report,
+        extent,
+    };
+    let areas = Areas {
+        storage,
+        program,
+        restart_arguments,
+    };
+    let recovered = recover(lent, areas, LAST_CYLINDER);
+    let number = match &recovered {
+        Ok(recovered) => {
+            answer.copy_from_slice(&written(&recovered.answer));
+            library::ANSWERED
+        }
+        Err(refusal) => refusal.number(),
+    };
+    (Left { number, arena }, Some(recovered))
+}
+
+/// "Every report whose row gives another action gets its old answer": as where actions 9 and 11 are not
+/// built, of which the answer is number 7 unless an earlier question refuses.
+fn wrong_beside_no_overflow(sides: &Sides<7>) -> Option<&'static str> {
+    let (without, _) = by_simulator(sides.lent.clone(), recover_without_overflow);
+    let [_, report, ..] = sides.lent.areas();
+    let is_overflow = matches!(action_of(report), Some(Action::Nine | Action::Eleven));
+    if is_overflow && ![1, 5].contains(&without.number) {
+        let refused = without.number == 7 && without.arena == sides.lent;
+        (!refused).then_some("not number 7 without 9 and 11")
+    } else {
+        (without != sides.by_library).then_some("another answer than without 9 and 11")
+    }
+}
+
+/// Of the row that a report matches.
+fn action_of(report: &[u8]) -> Option<Action> {
+    let report = Report::decode(report).ok()?;
+    row_of(&report.sense).map(|row| TABLE[row].action)
+}
+
+/// What is wrong behind a restart by 9 or 11.
+fn wrong_rest(
+    recovery: &GeneratedRecovery,
+    answer: Option<&Answer>,
+    left: &RecoveryLeft,
+) -> Option<&'static str> {
+    let Some(Answer::Restart(RestartAction::Nine | RestartAction::Eleven)) = answer else {
+        return None;
+    };
+    let report = Report::decode(&recovery.report).expect("question 4 was answered yes");
+    let interrupted = InterruptedRead {
+        chain: &recovery.chain,
+        storage: recovery.storage.len(),
+        report: &report,
+    };
+    interrupted.otherwise(left.arena.areas()[PROGRAM])
 }
 
 /// How many bytes of storage the library changed.
@@ -164,7 +232,9 @@ fn written_action(action: RestartAction) -> u8 {
         RestartAction::Five => 0x05,
         RestartAction::FiveA => 0x15,
         RestartAction::Eight => 0x08,
+        RestartAction::Nine => 0x09,
         RestartAction::Ten => 0x0A,
         RestartAction::TenA => 0x1A,
+        RestartAction::Eleven => 0x0B,
     }
 }

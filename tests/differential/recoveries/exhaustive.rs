@@ -19,8 +19,8 @@ pub fn compare_all(comparison: &mut Comparison) -> Result<(), Disagreement> {
         recovery(&sent_to([0, 0x04, 0], 0x08), &WHOLE_PACK),
         recovery(&sent_to([0, 0x04, 0], 0x20), &WHOLE_PACK),
     ] {
-        each_byte(comparison, &base)?;
-        each_length(comparison, &base)?;
+        each_byte(comparison, OF_SAMPLE, &base)?;
+        each_length(comparison, OF_SAMPLE, &base)?;
     }
     each_combination(comparison)?;
     each_mask(comparison)?;
@@ -65,9 +65,24 @@ fn recovery(report: &Report, extent: &[u8]) -> GeneratedRecovery {
     }
 }
 
+/// What is told of a recovery changed in each way.
+#[derive(Clone, Copy)]
+pub struct Kinds {
+    pub byte_set: &'static str,
+    pub report_cut: &'static str,
+    pub storage_cut: &'static str,
+}
+
+const OF_SAMPLE: Kinds = Kinds {
+    byte_set: "sample, one byte set",
+    report_cut: "sample, report cut",
+    storage_cut: "sample, storage cut",
+};
+
 /// Each byte of each area that is only read at each value.
-fn each_byte(
+pub fn each_byte(
     comparison: &mut Comparison,
+    kinds: Kinds,
     recovery: &GeneratedRecovery,
 ) -> Result<(), Disagreement> {
     type Area = fn(&mut GeneratedRecovery) -> &mut Vec<u8>;
@@ -81,26 +96,27 @@ fn each_byte(
         let bytes = area(&mut recovery).clone();
         for changed in each_byte_at_each_value(&bytes) {
             *area(&mut recovery) = changed;
-            comparison.recovery("sample, one byte set", &recovery)?;
+            comparison.recovery(kinds.byte_set, &recovery)?;
         }
     }
     Ok(())
 }
 
 /// The report cut at each length, storage too.
-fn each_length(
+pub fn each_length(
     comparison: &mut Comparison,
+    kinds: Kinds,
     recovery: &GeneratedRecovery,
 ) -> Result<(), Disagreement> {
     for length in 0..=recovery.report.len() {
         let mut recovery = recovery.clone();
         recovery.report.truncate(length);
-        comparison.recovery("sample, report cut", &recovery)?;
+        comparison.recovery(kinds.report_cut, &recovery)?;
     }
     for length in 0..=recovery.storage.len() {
         let mut recovery = recovery.clone();
         recovery.storage.truncate(length);
-        comparison.recovery("sample, storage cut", &recovery)?;
+        comparison.recovery(kinds.storage_cut, &recovery)?;
     }
     Ok(())
 }

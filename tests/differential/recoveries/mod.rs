@@ -2,6 +2,7 @@
 
 mod exhaustive;
 mod large;
+pub mod overflow;
 
 use crate::compare::{Comparison, Disagreement};
 use crate::random::Random;

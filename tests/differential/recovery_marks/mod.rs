@@ -29,7 +29,7 @@ pub enum RecoveryMark {
     Cut(u8),
     /// The read count of a restart.
     ReadCount(u8),
-    /// A refusal, by the rule that decided.
+    /// A refusal, by the rule that decided; where it is number 9, not of actions 9 and 11.
     Refused(Refusal),
     /// A refusal's number where the report's sense sends to this action, or where no row matches.
     RefusedFor(u8, Option<Action>),
@@ -179,7 +179,9 @@ fn answers_of(action: Action) -> Vec<AnswerKind> {
     let restarts: &[RestartAction] = match action {
         Action::Five => &[RestartAction::Five, RestartAction::FiveA],
         Action::Eight => &[RestartAction::Eight],
+        Action::Nine => &[RestartAction::Nine],
         Action::Ten => &[RestartAction::Ten, RestartAction::TenA],
+        Action::Eleven => &[RestartAction::Eleven],
         _ => &[],
     };
     let mut kinds = match action {
@@ -206,7 +208,7 @@ fn numbers_of(action: Option<Action>) -> Vec<u8> {
     let own: &[u8] = match action {
         None => &[6],
         Some(Action::Five) => &[8, 9],
-        Some(Action::Eight | Action::Ten) => &[9],
+        Some(Action::Eight | Action::Nine | Action::Ten | Action::Eleven) => &[9],
         Some(action) if action.is_known() => &[],
         Some(_) => &[7],
     };

@@ -59,12 +59,17 @@ impl Marks {
     }
 
     fn refused(&mut self, recovery: &GeneratedRecovery, refusal: Refusal) {
-        self.see(RecoveryMark::Refused(refusal));
-        let Some(sense) = sense_of(&recovery.report) else {
-            return;
-        };
-        let (number, row) = (refusal.number(), row_of(sense));
+        let sense = sense_of(&recovery.report);
+        let (number, row) = (refusal.number(), sense.and_then(row_of));
         let action = row.map(|row| TABLE[row].action);
+        // What 9 and 11 are refused for has marks of its own.
+        let overflow = matches!(action, Some(Action::Nine | Action::Eleven));
+        if !overflow || number != 9 {
+            self.see(RecoveryMark::Refused(refusal));
+        }
+        if sense.is_none() {
+            return;
+        }
         self.see(RecoveryMark::RefusedFor(number, action));
         if let Some(row) = row.filter(|_| number > 6) {
             self.see(RecoveryMark::Row(row));
@@ -104,8 +109,9 @@ impl Marks {
     fn restarted(&mut self, report: &Report, action: RestartAction) {
         let mask = MaskKind::of(report.mask);
         self.see(RecoveryMark::Masked(action, mask));
+        let overflow = matches!(action, RestartAction::Nine | RestartAction::Eleven);
         self.meet_if(
-            report.is_pci_fetch_mode(),
+            report.is_pci_fetch_mode() && !overflow,
             RecoveryEvent::PciFetchModeSetAgain,
         );
     }

@@ -119,7 +119,7 @@ fn reported(
 }
 
 /// The CSW that shows where the walk ends; that of a program check where it does not.
-fn ended(chain: &[u8], first: usize, length: usize, storage: usize) -> [u8; 8] {
+pub fn ended(chain: &[u8], first: usize, length: usize, storage: usize) -> [u8; 8] {
     let mut channel = Channel::new(Program::of_chain(chain), storage);
     let walked = channel
         .fetch(first)

@@ -1,11 +1,12 @@
-//! Recoveries: reports of cuts that the trial drive made, of data chains made up and of interrupted
-//! CCWs, each with its chain; the same with something changed; reports with no plan.
+//! Recoveries: reports of cuts that the trial drive made, of data chains made up, of interrupted CCWs and
+//! of overflow records, each with its chain; the same with something changed; reports with no plan.
 
 mod areas;
 mod change;
 mod cut;
 mod data_chain;
 mod interrupted;
+pub mod overflow;
 mod row;
 
 pub use crate::simulator::held::HeldRecovery as GeneratedRecovery;
@@ -22,6 +23,7 @@ use crate::simulator::report::{self, Report};
 use crate::simulator::{encode, LAST_CYLINDER};
 
 /// A recovery whose report is not written yet.
+#[derive(Clone)]
 pub struct Planned {
     chain: Vec<u8>,
     storage: Vec<u8>,

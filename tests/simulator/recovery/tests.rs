@@ -1,3 +1,5 @@
+mod overflow;
+
 use super::*;
 use crate::simulator::channel::ProgramCheck;
 use crate::simulator::cut::CutRule;
@@ -239,8 +241,10 @@ fn each_row() {
             Two => Ok(Answer::Action2),
             Three | Four => Ok(Answer::Repeat),
             Five => Err(Refusal::SenseFormat),
-            Eight | Ten => Err(Refusal::Interrupted(InterruptedRule::NoSeekArgument)),
-            Six | SixA | Seven | Nine | Eleven => Err(Refusal::Action(row.action)),
+            Eight | Nine | Ten | Eleven => {
+                Err(Refusal::Interrupted(InterruptedRule::NoSeekArgument))
+            }
+            Six | SixA | Seven => Err(Refusal::Action(row.action)),
         };
         assert_eq!(answer, expected);
     }

@@ -1,7 +1,7 @@
 -- `action_five::walked_to` meets its contract: by whether the CSW agrees. Assumes nothing.
 use mathlib.Core.Path.{sym, _∙_}
 use borrow.Author.Tests.{not-true, not-false}
-use Rattle.action_five.proofs.Fives.{chain-low}
+use Rattle.location.proofs.NextFits.{chain-low}
 use Rattle.action_five.proofs.Searched.{disagrees, agrees-on}
 use borrow.Author.Needs.{needs}
 use Rattle.action_five.proofs.walked_to.Statement.{statement}

@@ -25,6 +25,15 @@ put-restart-requires c κs =
     let pre = at-d3 .before .before .before .before .before .pre in
     (pre .0, (pre .1 .0, rw (at-d3 .d3 .given .1) at (pre .1 .1)))
 
+enum-known-d-4 : tie.Need-enum-known-d-4
+enum-known-d-4 c = search needs
+
+put-overflow-requires : tie.Need-put-overflow-requires
+put-overflow-requires c κs =
+    let at-d4 = c .before .before .before in
+    let pre = at-d4 .before .before .before .before .before .pre in
+    (pre .0, (pre .1 .0, rw (at-d4 .d4 .given .1) at (pre .1 .1)))
+
 returns : tie.Need-returns
 unfolding done
 returns c = rw (c .before .d .given .1)
@@ -53,6 +62,18 @@ returns-3 c =
     let at-d3 = at-mend2 .before .before .before in
     rw (at-d3 .d3 .given .1, at-mend2 .mend2 .ensures, at-put-restart .put-restart .ensures .0, at-put-restart .put-restart .ensures .1)
 
+same-length-5 : tie.Need-same-length-5
+same-length-5 c = search needs
+
+same-length-6 : tie.Need-same-length-6
+same-length-6 c = search needs
+
+returns-4 : tie.Need-returns-4
+unfolding done
+returns-4 c =
+    let at-put = c .before .before .before .before in
+    rw (at-put .before .before .before .before .d4 .given .1, at-put .put-overflow .ensures .0, at-put .put-overflow .ensures .1)
+
 pub carry-out-spec : {M : Type 1} → statement M
 carry-out-spec =
     tie.close
@@ -63,10 +84,15 @@ carry-out-spec =
     enum-known-d-3
     mend-requires-2
     put-restart-requires
+    enum-known-d-4
+    put-overflow-requires
     returns
     same-length
     returns-2
     same-length-2
     same-length-3
     same-length-4
-    returns-3)
+    returns-3
+    same-length-5
+    same-length-6
+    returns-4)

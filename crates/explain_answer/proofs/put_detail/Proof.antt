@@ -28,8 +28,17 @@ enum-told-4 c = search needs
 enum-told-5 : tie.Need-enum-told-5
 enum-told-5 c = search needs
 
+enum-told-6 : tie.Need-enum-told-6
+enum-told-6 c = search needs
+
 put-head-requires : tie.Need-put-head-requires
 put-head-requires c κs = search needs
+
+enum-told-7 : tie.Need-enum-told-7
+enum-told-7 c = search needs
+
+put-head-requires-2 : tie.Need-put-head-requires-2
+put-head-requires-2 c κs = search needs
 
 same-length : tie.Need-same-length
 same-length c = search needs
@@ -53,12 +62,23 @@ returns-4 : tie.Need-returns-4
 unfolding detailText
 returns-4 c = (detail-put _ _ (c .enum-told4 .given .1) (puts-none _ _) refl, search needs)
 
+returns-5 : tie.Need-returns-5
+unfolding detailText
+returns-5 c = (detail-put _ _ (c .enum-told5 .given .1) (puts-none _ _) refl, search needs)
+
 same-length-3 : tie.Need-same-length-3
 same-length-3 c = search needs
 
-returns-5 : tie.Need-returns-5
+returns-6 : tie.Need-returns-6
 unfolding detailText
-returns-5 c = (detail-put _ _ (c .before .before .before .before .enum-told5 .given .1) (c .before .before .put-head .ensures .0) refl, search needs)
+returns-6 c = (detail-put _ _ (c .before .before .before .before .enum-told6 .given .1) (c .before .before .put-head .ensures .0) refl, search needs)
+
+same-length-4 : tie.Need-same-length-4
+same-length-4 c = search needs
+
+returns-7 : tie.Need-returns-7
+unfolding detailText
+returns-7 c = (detail-put _ _ (c .before .before .before .before .enum-told7 .given .1) (c .before .before .put-head2 .ensures .0) refl, search needs)
 
 pub put-detail-spec : {M : Type 1} → statement M
 put-detail-spec =
@@ -71,12 +91,18 @@ put-detail-spec =
     enum-told-3
     enum-told-4
     enum-told-5
+    enum-told-6
     put-head-requires
+    enum-told-7
+    put-head-requires-2
     same-length
     returns
     same-length-2
     returns-2
     returns-3
     returns-4
+    returns-5
     same-length-3
-    returns-5)
+    returns-6
+    same-length-4
+    returns-7)

@@ -7,7 +7,10 @@ told-by-requires : tie.Need-told-by-requires
 told-by-requires c κs = search needs
 
 recover-told-requires : tie.Need-recover-told-requires
-recover-told-requires c κs = search needs
+recover-told-requires c κs =
+    let at-told = c .before .before .before in
+    let lent = at-told .before .before .before .before .before .pre .0 in
+    (lent .chain-short, (lent .storage-short, (at-told .told-by .ensures .1, (lent .program-full, lent .restart-arguments-full))))
 
 same-length : tie.Need-same-length
 same-length c = search needs

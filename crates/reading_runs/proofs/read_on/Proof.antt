@@ -135,7 +135,12 @@ after-cut-requires c κs =
     let start = at-loop .before .before .before .before .before .before .before .before .before in
     let at = at-loop .loop in
     let lent = start .pre .1 .0 in (
-      record { chain-short = lent .chain-short; program-full = at .inv .2 ∙ lent .program-full; restart-arguments-full = at .inv .3 ∙ lent .restart-arguments-full },
+      record {
+        chain-short = lent .chain-short;
+        storage-short = omega (arith, at .inv .1, lent .storage-short);
+        program-full = at .inv .2 ∙ lent .program-full;
+        restart-arguments-full = at .inv .3 ∙ lent .restart-arguments-full;
+      },
       (rw (at-ran3 .ran3 .given .1) at (at .inv .5), part-long (at .made) (start .args .limit) (at .list) (at .inv .0) (at-if1 .if1 .left) (at .inv .4) (start .pre .1 .1 .1 .1)),
     )
 

@@ -1,5 +1,5 @@
 -- `recover::act` meets its contract: by the action's code. Assumes nothing.
-use Rattle.recover.proofs.Acts.{acts-one, acts-two, acts-three, acts-four, acts-five, acts-eight, acts-ten, acts-other}
+use Rattle.recover.proofs.Acts.{acts-one, acts-two, acts-three, acts-four, acts-five, acts-eight, acts-nine, acts-ten, acts-eleven, acts-other}
 use borrow.Author.Needs.{needs}
 use Rattle.recover.proofs.act.Statement.{statement}
 use Rattle.recover.proofs.act.Tie as tie
@@ -34,21 +34,34 @@ eight-requires c κs = search needs
 returns-6 : tie.Need-returns-6
 returns-6 c = let a = c .before .before .before .before .before .before .before .before .args in (acts-eight (a .chain .now) (a .size) (a .t) _ _ (c .before .if6 .taken) (c .eight .ensures .0), c .eight .ensures .1)
 
+nine-requires : tie.Need-nine-requires
+nine-requires c κs = search needs
+
+returns-7 : tie.Need-returns-7
+returns-7 c = let a = c .before .before .before .before .before .before .before .before .before .args in (acts-nine (a .chain .now) (a .size) (a .t) _ _ (c .before .if7 .taken) (c .nine .ensures .0), c .nine .ensures .1)
+
 ten-requires : tie.Need-ten-requires
 ten-requires c κs = search needs
 
-returns-7 : tie.Need-returns-7
-returns-7 c = let a = c .before .before .before .before .before .before .before .before .before .args in (acts-ten (a .chain .now) (a .size) (a .t) _ _ (c .before .if7 .taken) (c .ten .ensures .0), c .ten .ensures .1)
-
 returns-8 : tie.Need-returns-8
-returns-8 c =
-    let at-if4 = c .before .before .before in
+returns-8 c = let a = c .before .before .before .before .before .before .before .before .before .before .args in (acts-ten (a .chain .now) (a .size) (a .t) _ _ (c .before .if8 .taken) (c .ten .ensures .0), c .ten .ensures .1)
+
+eleven-requires : tie.Need-eleven-requires
+eleven-requires c κs = search needs
+
+returns-9 : tie.Need-returns-9
+returns-9 c = let a = c .before .before .before .before .before .before .before .before .before .before .before .args in (acts-eleven (a .chain .now) (a .size) (a .t) _ _ (c .before .if9 .taken) (c .eleven .ensures .0), c .eleven .ensures .1)
+
+returns-10 : tie.Need-returns-10
+returns-10 c =
+    let at-if5 = c .before .before .before .before in
+    let at-if4 = at-if5 .before in
     let at-if3 = at-if4 .before in
     let at-if2 = at-if3 .before in
     let at-if1 = at-if2 .before in
     let a = at-if1 .before .before .args in (
-      acts-other (a .chain .now) (a .size) (a .t) _ (at-if1 .if1 .left) (at-if2 .if2 .left) (at-if3 .if3 .left) (at-if4 .if4 .left) (c .before .before .if5 .left)
-          (c .before .if6 .left) (c .if7 .left),
+      acts-other (a .chain .now) (a .size) (a .t) _ (at-if1 .if1 .left) (at-if2 .if2 .left) (at-if3 .if3 .left) (at-if4 .if4 .left) (at-if5 .if5 .left)
+          (c .before .before .before .if6 .left) (c .before .before .if7 .left) (c .before .if8 .left) (c .if9 .left),
       tt,
     )
 
@@ -66,6 +79,10 @@ act-spec =
     returns-5
     eight-requires
     returns-6
-    ten-requires
+    nine-requires
     returns-7
-    returns-8)
+    ten-requires
+    returns-8
+    eleven-requires
+    returns-9
+    returns-10)

@@ -58,7 +58,7 @@ recover-told-requires : tie.Need-recover-told-requires
 recover-told-requires c κs =
     let at-if1 = c .before .before .before .before .before .before .before .before .before .before .before in
     let fit = areas-say _ _ _ _ _ (sym (at-if1 .before .areas-fit .ensures) ∙ not-false _ (at-if1 .if1 .left)) in
-    (fit .chain-short, (c .before .before .before .tell .ensures .1, (fit .program-full, fit .restart-arguments-full)))
+    (fit .chain-short, (fit .storage-short, (c .before .before .before .tell .ensures .1, (fit .program-full, fit .restart-arguments-full))))
 
 same-length : tie.Need-same-length
 same-length c = search needs

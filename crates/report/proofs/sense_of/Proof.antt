@@ -14,14 +14,17 @@ shared-slice-read-t5 c = search needs
 shared-slice-read-t7 : tie.Need-shared-slice-read-t7
 shared-slice-read-t7 c = search needs
 
+shared-slice-read-t9 : tie.Need-shared-slice-read-t9
+shared-slice-read-t9 c = search needs
+
 shared-slice-read-reached-head : tie.Need-shared-slice-read-reached-head
 shared-slice-read-reached-head c = search needs
 
 reached-head-requires : tie.Need-reached-head-requires
 reached-head-requires c κs = search needs
 
-shared-slice-read-t12 : tie.Need-shared-slice-read-t12
-shared-slice-read-t12 c = search needs
+shared-slice-read-t14 : tie.Need-shared-slice-read-t14
+shared-slice-read-t14 c = search needs
 
 be16-requires : tie.Need-be16-requires
 be16-requires c κs = search needs
@@ -29,11 +32,11 @@ be16-requires c κs = search needs
 be16-requires-2 : tie.Need-be16-requires-2
 be16-requires-2 c κs = search needs
 
-shared-slice-read-t17 : tie.Need-shared-slice-read-t17
-shared-slice-read-t17 c = search needs
-
 shared-slice-read-t19 : tie.Need-shared-slice-read-t19
 shared-slice-read-t19 c = search needs
+
+shared-slice-read-t21 : tie.Need-shared-slice-read-t21
+shared-slice-read-t21 c = search needs
 
 be24-requires : tie.Need-be24-requires
 be24-requires c κs = search needs
@@ -41,14 +44,14 @@ be24-requires c κs = search needs
 be16-requires-3 : tie.Need-be16-requires-3
 be16-requires-3 c κs = search needs
 
-shared-slice-read-t25 : tie.Need-shared-slice-read-t25
-shared-slice-read-t25 c = search needs
-
 shared-slice-read-t27 : tie.Need-shared-slice-read-t27
 shared-slice-read-t27 c = search needs
 
 shared-slice-read-t29 : tie.Need-shared-slice-read-t29
 shared-slice-read-t29 c = search needs
+
+shared-slice-read-t31 : tie.Need-shared-slice-read-t31
+shared-slice-read-t31 c = search needs
 
 returns : tie.Need-returns
 unfolding reachedHead
@@ -58,12 +61,13 @@ returns c =
     let at-be162 = at-be24 .before .before .before in
     let at-be16 = at-be162 .before in
     let at-head = at-be16 .before .before in
-    let start = at-head .before .before .before .before .before .before in
+    let start = at-head .before .before .before .before .before .before .before in
     record {
       full = start .pre;
       byte0 = refl;
       byte1 = refl;
       byte2 = refl;
+      byte3 = refl;
       head = sym (at-head .reached-head .ensures);
       format = refl;
       track = λ i. record { cylinder = sym (at-be16 .be16 .ensures .0) i; head = sym (at-be162 .be162 .ensures .0) i };
@@ -83,16 +87,17 @@ sense-of-spec =
     shared-slice-read-t3
     shared-slice-read-t5
     shared-slice-read-t7
+    shared-slice-read-t9
     shared-slice-read-reached-head
     reached-head-requires
-    shared-slice-read-t12
+    shared-slice-read-t14
     be16-requires
     be16-requires-2
-    shared-slice-read-t17
     shared-slice-read-t19
+    shared-slice-read-t21
     be24-requires
     be16-requires-3
-    shared-slice-read-t25
     shared-slice-read-t27
     shared-slice-read-t29
+    shared-slice-read-t31
     returns)

@@ -83,7 +83,8 @@ run-from-requires c κs =
 
 read-on-requires : tie.Need-read-on-requires
 read-on-requires c κs =
-    let at-run-from = c .before .before .before .before .before .before in
+    let at-storage = c .before .before .before .before .before in
+    let at-run-from = at-storage .before in
     let at-if3 = at-run-from .before .before .before .before .before .before .before in
     let at-sound-faults = at-if3 .before in
     let at-if2 = at-sound-faults .before in
@@ -94,7 +95,12 @@ read-on-requires c κs =
     let fit = areas-say _ _ _ _ _ _ _ _ _ _ (sym (at-areas-fit .areas-fit .ensures) ∙ not-false _ (at-if1 .if1 .left)) in (
       record { short = (fit .chain-short, omega (arith, fit .program-full)); whole = w; listed = listed _ _ (sound-is _ _ _ w (at-sound-faults .sound-faults .ensures) (not-false _ (at-if3 .if3 .left))) },
       (
-        record { chain-short = fit .chain-short; program-full = fit .program-full; restart-arguments-full = fit .restart-arguments-full },
+        record {
+          chain-short = fit .chain-short;
+          storage-short = omega (arith, at-storage .storage .given, fit .storage-short);
+          program-full = fit .program-full;
+          restart-arguments-full = fit .restart-arguments-full;
+        },
         (at-run-from .run-from .ensures .1, (fit .few, fit .room)),
       ),
     )
