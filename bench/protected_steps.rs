@@ -3,9 +3,10 @@
 
 use crate::library::{self, ANSWER};
 use crate::simulator::encode::{self, ccw};
-use crate::simulator::extent::WHOLE_PACK;
+use crate::simulator::extent::whole_pack;
 use crate::simulator::held::{HeldRecovery, HeldRestart, HeldRun, RECOVERY_ANSWER};
 use crate::simulator::large::cylinder_of;
+use crate::simulator::model::Model;
 use crate::simulator::pack::LAST_HEAD;
 use crate::simulator::report::Report;
 use crate::times::{measured, Times};
@@ -81,7 +82,7 @@ impl Held {
         };
         let recovery = HeldRecovery {
             chain: run.chain.clone(),
-            extent: WHOLE_PACK.to_vec(),
+            extent: whole_pack(Model::One).to_vec(),
             storage: run.storage.clone(),
             ..HeldRecovery::default()
         };

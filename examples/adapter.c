@@ -11,6 +11,9 @@
 
 enum { TAG_AND_LENGTH = 3, SEEK_ARGUMENT = 6, FIRST_CCW = 2, MASK = 1, CCW = GIRUVE_CHAIN_MIN, AT_SENSE_ID = 8, STORAGE = 20 };
 
+/* of the pack on the drive */
+static const uint8_t model = GIRUVE_MODEL_1;
+
 static const uint8_t chain[] = {
     0x1F, 0, 0, 0x0B, 0x40, 0, 0, 1,  /* 0000 set file mask */
     0x07, 0, 0, 0x00, 0x40, 0, 0, 6,  /* 0008 seek */
@@ -60,14 +63,14 @@ static void started(uint8_t number)
 /* Starts the chain and waits for its end; without faults where the length of the fault list is 0. */
 static void start_chain(ending end, size_t faults_length)
 {
-    started(giruve_run(chain, sizeof chain, arguments, sizeof arguments, storage, sizeof storage, image, sizeof image,
+    started(giruve_run(model, chain, sizeof chain, arguments, sizeof arguments, storage, sizeof storage, image, sizeof image,
                        faults, faults_length, GIRUVE_LIMIT_MAX, end, GIRUVE_RUN_ANSWER));
 }
 
 /* Places the restart at GIRUVE_PROGRAM_ADDRESS and GIRUVE_RESTART_ARGUMENTS_ADDRESS, starts it, and waits for the end. */
 static void start_restart(ending end)
 {
-    started(giruve_run_restart(chain, sizeof chain, arguments, sizeof arguments, program, sizeof program,
+    started(giruve_run_restart(model, chain, sizeof chain, arguments, sizeof arguments, program, sizeof program,
                                restart_arguments, sizeof restart_arguments, storage, sizeof storage, image, sizeof image,
                                faults, sizeof faults, end, GIRUVE_RUN_ANSWER));
 }
@@ -75,9 +78,9 @@ static void start_restart(ending end)
 /* ---- 2. Recovery */
 
 static const char *const refusals[] = {
-    [GIRUVE_REFUSED_AREAS] = "an area has a wrong length",
+    [GIRUVE_REFUSED_AREAS] = "the model, or the length of an area, is wrong",
     [GIRUVE_REFUSED_REPORT] = "the report is not well formed",
-    [GIRUVE_REFUSED_EXTENT] = "the extent is not on the pack",
+    [GIRUVE_REFUSED_EXTENT] = "the extent is not on a pack of the model",
     [GIRUVE_REFUSED_ROW] = "the sense bytes name no error of the table",
     [GIRUVE_REFUSED_ACTION] = "the action for this error is not built",
     [GIRUVE_REFUSED_FORMAT] = "the sense bytes have another format",
@@ -138,7 +141,7 @@ static int carry_on(ending end, const uint8_t extent[GIRUVE_EXTENT], const uint8
         printf("unit check: track %03d/%02d, record %d\n", id[0] * 256 + id[1], id[2] * 256 + id[3], id[4]);
         size_t length = make_report(report, sense, csw, end + GIRUVE_AT_RUN_FIRST_CCW,
                                     end[GIRUVE_AT_RUN_MASK_SET] ? end + GIRUVE_AT_RUN_MASK : NULL, seek_argument, tries);
-        uint8_t number = giruve_recover(chain, sizeof chain, report, length, extent, GIRUVE_EXTENT, storage, sizeof storage,
+        uint8_t number = giruve_recover(model, chain, sizeof chain, report, length, extent, GIRUVE_EXTENT, storage, sizeof storage,
                                         program, sizeof program, restart_arguments, sizeof restart_arguments, answer, sizeof answer);
         if (number != GIRUVE_DONE) {
             printf("no recovery, nothing is changed: %s\n", refusals[number]);

@@ -35,9 +35,9 @@ static uint8_t answer[GIRUVE_READING_ANSWER];
 
 int main(void)
 {
-    uint8_t number = giruve_reading(chain, sizeof chain, arguments, sizeof arguments, storage, sizeof storage, image, sizeof image,
-                                    faults, sizeof faults, extent, sizeof extent, GIRUVE_LIMIT_MAX, program, sizeof program,
-                                    restart_arguments, sizeof restart_arguments, list, sizeof list, answer, sizeof answer);
+    uint8_t number = giruve_reading(GIRUVE_MODEL_1, chain, sizeof chain, arguments, sizeof arguments, storage, sizeof storage,
+                                    image, sizeof image, faults, sizeof faults, extent, sizeof extent, GIRUVE_LIMIT_MAX,
+                                    program, sizeof program, restart_arguments, sizeof restart_arguments, list, sizeof list, answer, sizeof answer);
     if (number != GIRUVE_DONE && number != GIRUVE_LIMIT && number != GIRUVE_STOPPED) {
         printf("refused %d\n", number);
         return 0;

@@ -7,6 +7,10 @@
  * from end to end. Besides, there are a trial drive that runs chains over the image of a pack (giruve_run, giruve_run_restart), a whole
  * reading on that drive (giruve_reading; examples/worked.c), and the checks of what these are lent (giruve_check_..).
  *
+ * Model. A call that meets track addresses is told the model of the pack first, GIRUVE_MODEL_1 or GIRUVE_MODEL_11. It says which cylinders there
+ * are, for the image, the extent, every seek and every restart. The library cannot see which model a pack is of; what comes of the wrong one
+ * stands in docs/ADAPTERS.md of the repository.
+ *
  * Areas. An area is a pointer and a length in bytes. A pointer is never NULL, not even for length 0, and an area that a call writes
  * overlaps no other area of that call; all else about the areas is checked. No area needs an alignment.
  *
@@ -40,14 +44,20 @@ extern "C" {
  * gone, or an answer is another one; a program must be looked at. Minor: names or calls were added, or a report is answered that was refused; a
  * program need only be compiled. Patch: neither.
  */
-#define GIRUVE_VERSION "3.1.0"
+#define GIRUVE_VERSION "4.0.0"
 enum {
-    GIRUVE_VERSION_MAJOR = 3,
-    GIRUVE_VERSION_MINOR = 1,
+    GIRUVE_VERSION_MAJOR = 4,
+    GIRUVE_VERSION_MINOR = 0,
     GIRUVE_VERSION_PATCH = 0,
 };
 
-/* What a call returns where no question refuses it. */
+/* The model of a 3336 pack. Both have heads 0 to 18. Any other number is refused by GIRUVE_REFUSED_AREAS, whatever else the call is lent. */
+enum {
+    GIRUVE_MODEL_1 = 1,    /* cylinders 0 to 410 */
+    GIRUVE_MODEL_11 = 11,  /* cylinders 0 to 814 */
+};
+
+/* What a call returns where no question refuses it. Questions have the numbers 1 to 63. */
 enum {
     GIRUVE_DONE = 0,      /* accepted, ended or answered */
     GIRUVE_LIMIT = 64,    /* "limit": as many commands as a run may begin, and no end; or a cut behind as many recoveries as a reading may make */
@@ -59,11 +69,11 @@ enum {
  * and when report and chain agree, stands point by point in docs/REFERENCE.md of the repository.
  */
 enum {
-    GIRUVE_REFUSED_AREAS = 1,      /* Are the lengths of all areas, and the command limit, as they must be? */
-    GIRUVE_REFUSED_IMAGE = 2,      /* Is the image well formed? */
+    GIRUVE_REFUSED_AREAS = 1,      /* Are the model, the lengths of all areas and the command limit as they must be? */
+    GIRUVE_REFUSED_IMAGE = 2,      /* Is the image well formed, and are its tracks on a pack of the model? */
     GIRUVE_REFUSED_FAULTS = 3,     /* Are the faults well formed, and has the image their records? */
     GIRUVE_REFUSED_REPORT = 4,     /* Is the report well formed? */
-    GIRUVE_REFUSED_EXTENT = 5,     /* Are both tracks of the extent on the pack, and is the first not after the last? */
+    GIRUVE_REFUSED_EXTENT = 5,     /* Are both tracks of the extent on a pack of the model, and is the first not after the last? */
     GIRUVE_REFUSED_ROW = 6,        /* Do sense bytes 0 to 2 name an error that the error table has? */
     GIRUVE_REFUSED_ACTION = 7,     /* Is the action for that error none of 6, 6A and 7, which are not built? */
     GIRUVE_REFUSED_FORMAT = 8,     /* For action 5: is sense byte 7 that of a correctable data check, 53 hexadecimal? */
@@ -83,8 +93,7 @@ enum {
  *            numbers. May be empty.
  * faults     tagged fields, at most one for a record: tag 20 hexadecimal, the record (cylinder 2, head 2, record number 1, not 0), error
  *            displacement 2 (where the wrong bytes begin, counted back from the end of the data area) and pattern 3. May be empty.
- * extent     the tracks in which a restart may seek: the first and the last, each cylinder 2, head 2. A pack has cylinders 0 to 410, heads
- *            0 to 18.
+ * extent     the tracks in which a restart may seek: the first and the last, each cylinder 2, head 2.
  * list       entries of a reading's recoveries: room for as many as the command limit, or more.
  */
 enum {
@@ -233,13 +242,13 @@ enum {
 };
 
 /* Asks GIRUVE_REFUSED_AREAS and GIRUVE_REFUSED_IMAGE of an image. Writes nothing. */
-uint8_t giruve_check_image(const uint8_t *image, size_t image_length);
+uint8_t giruve_check_image(uint8_t model, const uint8_t *image, size_t image_length);
 
 /* Asks GIRUVE_REFUSED_AREAS, GIRUVE_REFUSED_IMAGE and GIRUVE_REFUSED_FAULTS of an image and a fault list. Writes nothing. */
-uint8_t giruve_check_faults(const uint8_t *image, size_t image_length, const uint8_t *faults, size_t faults_length);
+uint8_t giruve_check_faults(uint8_t model, const uint8_t *image, size_t image_length, const uint8_t *faults, size_t faults_length);
 
 /* Asks GIRUVE_REFUSED_AREAS and GIRUVE_REFUSED_EXTENT of an extent. Writes nothing. */
-uint8_t giruve_check_extent(const uint8_t *extent, size_t extent_length);
+uint8_t giruve_check_extent(uint8_t model, const uint8_t *extent, size_t extent_length);
 
 /* Ask GIRUVE_REFUSED_AREAS alone, of the lengths of a run's areas and its command limit, and of the lengths of the restart areas. */
 uint8_t giruve_check_areas(size_t chain, size_t arguments, size_t storage, size_t image, size_t faults, size_t limit);
@@ -254,7 +263,7 @@ uint8_t giruve_check_restart_areas(size_t program, size_t restart_arguments);
  * copies none: its time goes by the CCWs of the read, not by its bytes. For actions 9 and 11 it follows the read as far as sense bytes 15 to 17 say.
  * The longest way, 16,777,215 CCWs of one byte round a TIC, took a tenth of a second.
  */
-uint8_t giruve_recover(const uint8_t *chain, size_t chain_length, const uint8_t *report, size_t report_length,
+uint8_t giruve_recover(uint8_t model, const uint8_t *chain, size_t chain_length, const uint8_t *report, size_t report_length,
                        const uint8_t *extent, size_t extent_length, uint8_t *storage, size_t storage_length,
                        uint8_t *program, size_t program_length,
                        uint8_t *restart_arguments, size_t restart_arguments_length, uint8_t *answer, size_t answer_length);
@@ -272,7 +281,7 @@ uint8_t giruve_recover(const uint8_t *chain, size_t chain_length, const uint8_t 
  * track. A step past head 18 ends the run with GIRUVE_UNIT_CHECK, and end of cylinder in the sense: 20 in byte 1. So does a step that the file
  * mask forbids, with file protected in the sense: 04 in byte 1, and in byte 6 the head on which the drive stands.
  */
-uint8_t giruve_run(const uint8_t *chain, size_t chain_length, const uint8_t *arguments, size_t arguments_length,
+uint8_t giruve_run(uint8_t model, const uint8_t *chain, size_t chain_length, const uint8_t *arguments, size_t arguments_length,
                    uint8_t *storage, size_t storage_length, const uint8_t *image, size_t image_length,
                    const uint8_t *faults, size_t faults_length, size_t limit, uint8_t *answer, size_t answer_length);
 
@@ -283,7 +292,7 @@ uint8_t giruve_run(const uint8_t *chain, size_t chain_length, const uint8_t *arg
  * home address, 1A, which finds no record: 08 in byte 1 of the sense. The read of a restart by action 9 or 11 ends the chain there where it chains
  * nothing or has incorrect length. No record of the trial drive goes on on the next track.
  */
-uint8_t giruve_run_restart(const uint8_t *chain, size_t chain_length, const uint8_t *arguments, size_t arguments_length,
+uint8_t giruve_run_restart(uint8_t model, const uint8_t *chain, size_t chain_length, const uint8_t *arguments, size_t arguments_length,
                            const uint8_t *program, size_t program_length,
                            const uint8_t *restart_arguments, size_t restart_arguments_length,
                            uint8_t *storage, size_t storage_length, const uint8_t *image, size_t image_length,
@@ -299,7 +308,7 @@ uint8_t giruve_run_restart(const uint8_t *chain, size_t chain_length, const uint
  * The address in the CSW may lie in the restart program, from GIRUVE_PROGRAM_ADDRESS on. Only a read count, 92, ends a reading there, where the step
  * to the next head fails that the 86 or 8E behind it was to make (docs/OPERATORS.md of the repository).
  */
-uint8_t giruve_reading(const uint8_t *chain, size_t chain_length, const uint8_t *arguments, size_t arguments_length,
+uint8_t giruve_reading(uint8_t model, const uint8_t *chain, size_t chain_length, const uint8_t *arguments, size_t arguments_length,
                        uint8_t *storage, size_t storage_length, const uint8_t *image, size_t image_length,
                        const uint8_t *faults, size_t faults_length, const uint8_t *extent, size_t extent_length, size_t limit,
                        uint8_t *program, size_t program_length,

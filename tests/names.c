@@ -24,6 +24,8 @@ static const uint8_t other_fault[] = {0x20, 0, 10, 1, 2, 0, 3, 8, 0, 4, 1, 2, 3}
 static const uint8_t whole_pack[GIRUVE_EXTENT + 1] = {0, 0, 0, 0, 0x01, 0x9A, 0, 18, 0};
 static const uint8_t one_track[GIRUVE_EXTENT] = {0, 0, 0, 0, 0, 0, 0, 0};
 static const uint8_t off_the_pack[GIRUVE_EXTENT] = {0, 0, 0, 0, 0x01, 0x9B, 0, 0};
+static const uint8_t whole_model_11[GIRUVE_EXTENT] = {0, 0, 0, 0, 0x03, 0x2E, 0, 18};
+static const uint8_t off_model_11[GIRUVE_EXTENT] = {0, 0, 0, 0, 0x03, 0x2F, 0, 0};
 
 /* the seek argument of that track; masks, the second with PCI fetch mode */
 static const uint8_t arguments[] = {0, 0, 1, 2, 0, 3, 0x80, 0x01};
@@ -34,6 +36,9 @@ static uint8_t chain[4 * CCW], ran[GIRUVE_RUN_ANSWER + 1], answer[GIRUVE_RECOVER
 static uint8_t report[GIRUVE_REPORT_MAX];
 static size_t report_length;
 
+/* of every call below */
+static uint8_t model = GIRUVE_MODEL_1;
+
 static void put_ccw(size_t at, uint8_t command, uint8_t address, uint8_t flags, uint8_t count)
 {
     const uint8_t ccw[CCW] = {command, 0, 0, address, flags, 0, 0, count};
@@ -42,14 +47,14 @@ static void put_ccw(size_t at, uint8_t command, uint8_t address, uint8_t flags, 
 
 static uint8_t run(size_t length, size_t faults_length, size_t answer_length)
 {
-    return giruve_run(chain, length, arguments, sizeof arguments, storage, sizeof storage, image, sizeof image, faults, faults_length,
+    return giruve_run(model, chain, length, arguments, sizeof arguments, storage, sizeof storage, image, sizeof image, faults, faults_length,
                       GIRUVE_LIMIT_MAX, ran, answer_length);
 }
 
 static uint8_t reading(size_t length, const uint8_t *extent, size_t limit, size_t list_length, size_t answer_length)
 {
-    return giruve_reading(chain, length, arguments, sizeof arguments, storage, sizeof storage, image, sizeof image, faults, sizeof faults,
-                          extent, GIRUVE_EXTENT, limit, program, GIRUVE_PROGRAM, restart_arguments, GIRUVE_RESTART_ARGUMENTS,
+    return giruve_reading(model, chain, length, arguments, sizeof arguments, storage, sizeof storage, image, sizeof image,
+                          faults, sizeof faults, extent, GIRUVE_EXTENT, limit, program, GIRUVE_PROGRAM, restart_arguments, GIRUVE_RESTART_ARGUMENTS,
                           list, list_length, read, answer_length);
 }
 
@@ -79,7 +84,7 @@ static void make_report(const uint8_t *sense, const uint8_t *csw, const uint8_t 
 
 static uint8_t recover(size_t length, const uint8_t *extent, size_t answer_length)
 {
-    return giruve_recover(chain, length, report, report_length, extent, GIRUVE_EXTENT, storage, sizeof storage, program, GIRUVE_PROGRAM,
+    return giruve_recover(model, chain, length, report, report_length, extent, GIRUVE_EXTENT, storage, sizeof storage, program, GIRUVE_PROGRAM,
                           restart_arguments, GIRUVE_RESTART_ARGUMENTS, answer, answer_length);
 }
 
@@ -112,8 +117,8 @@ static void lengths(void)
     HOLDS(accepts(GIRUVE_CHAIN_MIN, 0, 0, 0, GIRUVE_FAULTS_MAX + 1, GIRUVE_LIMIT_MAX) == 0);
     HOLDS(accepts(GIRUVE_CHAIN_MIN, 0, 0, 0, 0, GIRUVE_LIMIT_MIN - 1) == 0 && accepts(GIRUVE_CHAIN_MIN, 0, 0, 0, 0, GIRUVE_LIMIT_MAX + 1) == 0);
     HOLDS(giruve_check_restart_areas(GIRUVE_PROGRAM, GIRUVE_RESTART_ARGUMENTS) == GIRUVE_DONE);
-    HOLDS(giruve_check_extent(whole_pack, GIRUVE_EXTENT) == GIRUVE_DONE);
-    HOLDS(giruve_check_extent(whole_pack, GIRUVE_EXTENT + 1) == GIRUVE_REFUSED_AREAS);
+    HOLDS(giruve_check_extent(model, whole_pack, GIRUVE_EXTENT) == GIRUVE_DONE);
+    HOLDS(giruve_check_extent(model, whole_pack, GIRUVE_EXTENT + 1) == GIRUVE_REFUSED_AREAS);
     put_ccw(0, NO_OP, 0, 0, 1);
     HOLDS(run(CCW, 0, GIRUVE_RUN_ANSWER) == GIRUVE_DONE && run(CCW, 0, GIRUVE_RUN_ANSWER + 1) == GIRUVE_REFUSED_AREAS);
     HOLDS(reading(CCW, whole_pack, GIRUVE_LIMIT_MAX, GIRUVE_LIST_MAX, GIRUVE_READING_ANSWER) == GIRUVE_DONE);
@@ -165,14 +170,14 @@ static void limits(void)
     }
     put_ccw(0, READ_COUNT, 0, CC, 8);
     put_ccw(1, TIC, 0, 0, 0);
-    HOLDS(giruve_run(chain, 2 * CCW, arguments, 0, storage, sizeof storage, track, sizeof track, faults, 0, GIRUVE_LIMIT_MAX, ran,
+    HOLDS(giruve_run(model, chain, 2 * CCW, arguments, 0, storage, sizeof storage, track, sizeof track, faults, 0, GIRUVE_LIMIT_MAX, ran,
                      GIRUVE_RUN_ANSWER) == GIRUVE_LIMIT);
     HOLDS(begun() == GIRUVE_LIMIT_MAX % RECORDS);
     memset(program, 0, sizeof program);
     memcpy(program, chain, 2 * CCW);
     program[CCW + 2] = GIRUVE_PROGRAM_ADDRESS >> 8;
-    HOLDS(giruve_run_restart(chain, 2 * CCW, arguments, 0, program, GIRUVE_PROGRAM, restart_arguments, GIRUVE_RESTART_ARGUMENTS, storage,
-                             sizeof storage, track, sizeof track, faults, 0, ran, GIRUVE_RUN_ANSWER) == GIRUVE_LIMIT);
+    HOLDS(giruve_run_restart(model, chain, 2 * CCW, arguments, 0, program, GIRUVE_PROGRAM, restart_arguments, GIRUVE_RESTART_ARGUMENTS,
+                             storage, sizeof storage, track, sizeof track, faults, 0, ran, GIRUVE_RUN_ANSWER) == GIRUVE_LIMIT);
     HOLDS(begun() == GIRUVE_RESTART_LIMIT % RECORDS && GIRUVE_RESTART_LIMIT == 2 * GIRUVE_LIMIT_MAX);
 }
 
@@ -238,9 +243,9 @@ static void recoveries(void)
 static void refusals(void)
 {
     enum { AT_SENSE = FIELD, AT_FORMAT = FIELD + 7 };
-    HOLDS(giruve_check_image(image, sizeof image) == GIRUVE_DONE && giruve_check_image(image, 1) == GIRUVE_REFUSED_IMAGE);
-    HOLDS(giruve_check_faults(image, sizeof image, other_fault, sizeof other_fault) == GIRUVE_REFUSED_FAULTS);
-    HOLDS(giruve_check_extent(off_the_pack, GIRUVE_EXTENT) == GIRUVE_REFUSED_EXTENT);
+    HOLDS(giruve_check_image(model, image, sizeof image) == GIRUVE_DONE && giruve_check_image(model, image, 1) == GIRUVE_REFUSED_IMAGE);
+    HOLDS(giruve_check_faults(model, image, sizeof image, other_fault, sizeof other_fault) == GIRUVE_REFUSED_FAULTS);
+    HOLDS(giruve_check_extent(model, off_the_pack, GIRUVE_EXTENT) == GIRUVE_REFUSED_EXTENT);
     cut_chain(mask, CC, NO_OP);
     HOLDS(recover_from_cut(sizeof chain, off_the_pack) == GIRUVE_REFUSED_EXTENT);
     report[AT_FORMAT] = 0;
@@ -270,8 +275,34 @@ static void readings(void)
     HOLDS(read[GIRUVE_AT_READING_STOPPED_BY] == GIRUVE_REFUSED_AGREEMENT);
 }
 
+/* The last cylinder of each model; and of all numbers those that are models, by every call. */
+static void models(void)
+{
+    HOLDS(giruve_check_extent(GIRUVE_MODEL_1, whole_pack, GIRUVE_EXTENT) == GIRUVE_DONE);
+    HOLDS(giruve_check_extent(GIRUVE_MODEL_1, off_the_pack, GIRUVE_EXTENT) == GIRUVE_REFUSED_EXTENT);
+    HOLDS(giruve_check_extent(GIRUVE_MODEL_11, whole_model_11, GIRUVE_EXTENT) == GIRUVE_DONE);
+    HOLDS(giruve_check_extent(GIRUVE_MODEL_11, off_model_11, GIRUVE_EXTENT) == GIRUVE_REFUSED_EXTENT);
+    cut_chain(mask, CC, NO_OP);
+    HOLDS(recover_from_cut(sizeof chain, whole_pack) == GIRUVE_DONE);
+    for (int number = 0; number <= UINT8_MAX; number++) {
+        const int expected = number == GIRUVE_MODEL_1 || number == GIRUVE_MODEL_11 ? GIRUVE_DONE : GIRUVE_REFUSED_AREAS;
+        model = (uint8_t)number;
+        HOLDS(giruve_check_image(model, image, sizeof image) == expected);
+        HOLDS(giruve_check_faults(model, image, sizeof image, faults, sizeof faults) == expected);
+        HOLDS(giruve_check_extent(model, whole_pack, GIRUVE_EXTENT) == expected);
+        HOLDS(run(sizeof chain, sizeof faults, GIRUVE_RUN_ANSWER) == expected);
+        HOLDS(recover(sizeof chain, whole_pack, GIRUVE_RECOVERY_ANSWER) == expected);
+        HOLDS(giruve_run_restart(model, chain, sizeof chain, arguments, sizeof arguments, program, GIRUVE_PROGRAM, restart_arguments,
+                                 GIRUVE_RESTART_ARGUMENTS, storage, sizeof storage, image, sizeof image, faults, sizeof faults, ran,
+                                 GIRUVE_RUN_ANSWER) == expected);
+        HOLDS(reading(sizeof chain, whole_pack, GIRUVE_LIMIT_MAX, GIRUVE_LIST_MAX, GIRUVE_READING_ANSWER) == expected);
+    }
+    model = GIRUVE_MODEL_1;
+}
+
 int main(void)
 {
+    models();
     lengths();
     statuses();
     limits();

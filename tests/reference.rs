@@ -27,6 +27,7 @@ mod reference {
     pub mod fields;
     pub mod inputs;
     pub mod limits;
+    pub mod models;
     pub mod names;
     pub mod pack_numbers;
     pub mod page;
@@ -48,7 +49,7 @@ use std::process::ExitCode;
 type Check = fn(&Book) -> Result<(), String>;
 
 /// The longest ones last.
-const CHECKS: [(&str, Check); 16] = [
+const CHECKS: [(&str, Check); 17] = [
     ("names", names::check),
     ("answer areas", answers::check),
     ("inputs", inputs::check),
@@ -57,6 +58,7 @@ const CHECKS: [(&str, Check); 16] = [
     ("channel", channel::check),
     ("reading", reading::check),
     ("questions", questions::check),
+    ("models", models::check),
     ("recovery", recovery::check),
     ("restart", restart::check),
     ("sentences", sentences::check),

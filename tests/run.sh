@@ -34,6 +34,8 @@ c=(cc -std=c99 -Wall -Wextra -Wpedantic -Werror -Iinclude)
 cmp <(target/worked) samples/worked.out
 "${c[@]}" examples/adapter.c target/staticlib/libgiruve.a -o target/adapter
 cmp <(target/adapter) examples/adapter.out
+"${c[@]}" examples/model_11.c target/staticlib/libgiruve.a -o target/model_11
+cmp <(target/model_11) examples/model_11.out
 bash tests/archive.sh
 bash tests/install.sh
 bash tests/reading_program.sh | tee -a target/tried

@@ -6,6 +6,12 @@ mod simulator;
 
 #[path = "differential/arena.rs"]
 mod arena;
+#[allow(dead_code)]
+#[path = "differential/border_marks.rs"]
+mod border_marks;
+#[allow(dead_code)]
+#[path = "differential/calls.rs"]
+mod calls;
 mod cases;
 #[path = "differential/chains/mod.rs"]
 mod chains;
@@ -19,12 +25,17 @@ mod demand;
 mod generate;
 #[path = "differential/in_place.rs"]
 mod in_place;
-#[allow(dead_code)]
+#[allow(dead_code, unused_imports)]
 #[path = "differential/lendings/mod.rs"]
 mod lendings;
+#[path = "differential/library.rs"]
+mod library;
 #[allow(dead_code)]
 #[path = "differential/marks.rs"]
 mod marks;
+#[allow(dead_code)]
+#[path = "differential/models.rs"]
+mod models;
 #[allow(dead_code, unused_imports)]
 #[path = "differential/overflow_marks/mod.rs"]
 mod overflow_marks;

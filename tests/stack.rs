@@ -19,7 +19,7 @@ use std::collections::{BTreeMap, BTreeSet};
 use std::path::Path;
 use std::process::ExitCode;
 
-/// A function of the library, of which the address alone is taken: `Measured::call` passes it
+/// A function of the library, of which the address alone is taken: `Measured::call` passes it a model,
 /// pointers and lengths as words, and all of them return a byte.
 macro_rules! functions {
     ($($function:ident)*) => {
@@ -105,6 +105,12 @@ fn call_on(stack: &mut Stack, paint: u8, function: Function, words: &[usize]) ->
     (answer as u8, top - lowest)
 }
 
+/// A model as a word. C compilers widen a byte to 32 bits; those above may hold anything: the paint.
+fn of_model(model: u8, paint: u8) -> usize {
+    let above = u32::from_ne_bytes([paint; 4]);
+    (above as usize) << 32 | usize::from(model)
+}
+
 /// Pointer and length of an area.
 fn lent(area: &mut [u8]) -> [usize; 2] {
     [area.as_mut_ptr() as usize, area.len()]
@@ -132,9 +138,11 @@ impl Measured {
         for paint in PAINTS {
             let mut held = held.clone();
             let restart = held.restart.clone().unwrap_or_default();
+            let model = of_model(held.model, paint);
             let image = lent(&mut held.image);
             let faults = lent(&mut held.faults);
-            let image_and_faults = [image, faults].concat();
+            let of_image = [&[model], &image[..]].concat();
+            let of_faults = [&of_image[..], &faults].concat();
             let lengths = [
                 held.chain.len(),
                 held.arguments.len(),
@@ -144,8 +152,8 @@ impl Measured {
                 held.limit,
             ];
             let restart_lengths = [restart.program.len(), restart.arguments.len()];
-            self.call(paint, Function::giruve_check_image, &image);
-            self.call(paint, Function::giruve_check_faults, &image_and_faults);
+            self.call(paint, Function::giruve_check_image, &of_image);
+            self.call(paint, Function::giruve_check_faults, &of_faults);
             self.call(paint, Function::giruve_check_areas, &lengths);
             self.call(
                 paint,
@@ -160,7 +168,9 @@ impl Measured {
         for paint in PAINTS {
             let mut held = held.clone();
             let mut answer = [0; 36];
-            let first = [lent(&mut held.chain), lent(&mut held.arguments)].concat();
+            let model = of_model(held.model, paint);
+            let (chain, arguments) = (lent(&mut held.chain), lent(&mut held.arguments));
+            let first = [&[model], &chain[..], &arguments].concat();
             let device = [
                 lent(&mut held.storage),
                 lent(&mut held.image),
@@ -187,7 +197,7 @@ impl Measured {
         for paint in PAINTS {
             let mut held = held.clone();
             let mut answer = vec![0; held.answer_length];
-            let words = [
+            let areas = [
                 lent(&mut held.chain),
                 lent(&mut held.report),
                 lent(&mut held.extent),
@@ -195,8 +205,8 @@ impl Measured {
                 lent(&mut held.program),
                 lent(&mut held.restart_arguments),
                 lent(&mut answer),
-            ]
-            .concat();
+            ];
+            let words = [&[of_model(held.model, paint)], &areas.concat()[..]].concat();
             let number = self.call(paint, Function::giruve_recover, &words);
             let (what, action) = match number {
                 0 => (answer[0], answer[1]),
@@ -212,6 +222,7 @@ impl Measured {
             let mut held = held.clone();
             let mut list = vec![0; held.list_length];
             let mut answer = vec![0; held.answer_length];
+            let model = of_model(held.model, paint);
             let extent = lent(&mut held.extent);
             let before = [
                 lent(&mut held.chain),
@@ -229,8 +240,9 @@ impl Measured {
                 lent(&mut answer),
             ]
             .concat();
-            let words = [&before[..], &[held.limit], &behind].concat();
-            self.call(paint, Function::giruve_check_extent, &extent);
+            let words = [&[model], &before[..], &[held.limit], &behind].concat();
+            let of_extent = [&[model], &extent[..]].concat();
+            self.call(paint, Function::giruve_check_extent, &of_extent);
             self.call(paint, Function::giruve_reading, &words);
         }
     }
@@ -320,6 +332,7 @@ fn main() -> ExitCode {
     for held in readings.chain(large_readings()) {
         measured.read(&held);
         let mut of_run = HeldRun {
+            model: held.model,
             chain: held.chain,
             arguments: held.arguments,
             storage: held.storage,

@@ -1,6 +1,6 @@
 /*
- * The library's calls on several threads at once. Each thread has a fault list and written areas of its own; chain, image and extent are
- * shared. Every round of every thread must come to what the same calls come to on one thread.
+ * The library's calls on several threads at once. Each thread has a fault list and written areas of its own; chain, image and extents are
+ * shared. The models alternate. Every round of every thread must come to what the same calls come to on one thread.
  */
 #define _POSIX_C_SOURCE 200809L
 #include <pthread.h>
@@ -17,18 +17,22 @@ static uint8_t chain[RECORDS * CCW];
 static uint8_t arguments[1];
 static uint8_t extent[GIRUVE_EXTENT];
 
+/* cylinder 411, which model 1 has not */
+static const uint8_t of_model_11[GIRUVE_EXTENT] = {0x01, 0x9B, 0, 0, 0x01, 0x9B, 0, 18};
+
 /* All that the calls of a round write and return. */
 struct round {
     uint8_t storage[RECORDS * DATA], program[GIRUVE_PROGRAM], restart_arguments[GIRUVE_RESTART_ARGUMENTS], list[GIRUVE_LIST_MAX];
     uint8_t reading[GIRUVE_READING_ANSWER];
     uint8_t cut_storage[RECORDS * DATA], cut_program[GIRUVE_PROGRAM], cut_arguments[GIRUVE_RESTART_ARGUMENTS];
     uint8_t cut[GIRUVE_RUN_ANSWER], recovery[GIRUVE_RECOVERY_ANSWER], restarted[GIRUVE_RUN_ANSWER];
-    uint8_t returned[9];
+    uint8_t of_model_11, returned[9];
 };
 
-/* A thread has its number of faults, from one on, and its own patterns. */
+/* A thread has its model, its number of faults, from one on, and its own patterns. */
 struct thread {
     pthread_t id;
+    uint8_t model;
     uint8_t faults[THREADS * FAULT];
     size_t faults_length;
     struct round alone, together;
@@ -60,6 +64,7 @@ static void make_areas(void)
             memcpy(threads[t].faults + r * FAULT, fault, sizeof fault);
         }
         threads[t].faults_length = (size_t)(t + 1) * FAULT;
+        threads[t].model = t % 2 == 0 ? GIRUVE_MODEL_1 : GIRUVE_MODEL_11;
     }
 }
 
@@ -77,23 +82,24 @@ static void make_round(const struct thread *t, struct round *r)
 {
     uint8_t report[GIRUVE_REPORT_MAX], *returned = r->returned;
     memset(r, 0, sizeof *r);
-    *returned++ = giruve_reading(chain, sizeof chain, arguments, 0, r->storage, sizeof r->storage, image, sizeof image,
+    *returned++ = giruve_reading(t->model, chain, sizeof chain, arguments, 0, r->storage, sizeof r->storage, image, sizeof image,
                                  t->faults, t->faults_length, extent, sizeof extent, GIRUVE_LIMIT_MAX, r->program, sizeof r->program,
                                  r->restart_arguments, sizeof r->restart_arguments, r->list, sizeof r->list, r->reading, sizeof r->reading);
-    *returned++ = giruve_run(chain, sizeof chain, arguments, 0, r->cut_storage, sizeof r->cut_storage, image, sizeof image,
+    *returned++ = giruve_run(t->model, chain, sizeof chain, arguments, 0, r->cut_storage, sizeof r->cut_storage, image, sizeof image,
                              t->faults, t->faults_length, GIRUVE_LIMIT_MAX, r->cut, sizeof r->cut);
     size_t length = append(report, 0, GIRUVE_TAG_SENSE, r->cut + GIRUVE_AT_RUN_SENSE, GIRUVE_SENSE);
     length = append(report, length, GIRUVE_TAG_CSW, r->cut + GIRUVE_AT_RUN_CSW, GIRUVE_CSW);
     length = append(report, length, GIRUVE_TAG_FIRST_CCW, r->cut + GIRUVE_AT_RUN_FIRST_CCW, 2);
-    *returned++ = giruve_recover(chain, sizeof chain, report, length, extent, sizeof extent, r->cut_storage, sizeof r->cut_storage,
+    *returned++ = giruve_recover(t->model, chain, sizeof chain, report, length, extent, sizeof extent, r->cut_storage, sizeof r->cut_storage,
                                  r->cut_program, sizeof r->cut_program, r->cut_arguments, sizeof r->cut_arguments,
                                  r->recovery, sizeof r->recovery);
-    *returned++ = giruve_run_restart(chain, sizeof chain, arguments, 0, r->cut_program, sizeof r->cut_program,
+    *returned++ = giruve_run_restart(t->model, chain, sizeof chain, arguments, 0, r->cut_program, sizeof r->cut_program,
                                      r->cut_arguments, sizeof r->cut_arguments, r->cut_storage, sizeof r->cut_storage,
                                      image, sizeof image, t->faults, t->faults_length, r->restarted, sizeof r->restarted);
-    *returned++ = giruve_check_image(image, sizeof image);
-    *returned++ = giruve_check_faults(image, sizeof image, t->faults, t->faults_length);
-    *returned++ = giruve_check_extent(extent, sizeof extent);
+    *returned++ = giruve_check_image(t->model, image, sizeof image);
+    *returned++ = giruve_check_faults(t->model, image, sizeof image, t->faults, t->faults_length);
+    *returned++ = giruve_check_extent(t->model, extent, sizeof extent);
+    r->of_model_11 = giruve_check_extent(t->model, of_model_11, sizeof of_model_11);
     *returned++ = giruve_check_areas(sizeof chain, 0, sizeof r->storage, sizeof image, t->faults_length, GIRUVE_LIMIT_MAX);
     *returned++ = giruve_check_restart_areas(sizeof r->program, sizeof r->restart_arguments);
 }
@@ -109,11 +115,15 @@ static void *run_thread(void *own)
     return NULL;
 }
 
-/* Whether a round on one thread is one that tells something: everything is read, with as many recoveries as the thread has faults. */
+/*
+ * Whether a round on one thread is one that tells something: everything is read, with as many recoveries as the thread has faults, and cylinder 411
+ * is on the pack of model 11 alone.
+ */
 static int sound(int t)
 {
     const struct round *r = &threads[t].alone;
     int right = r->reading[GIRUVE_AT_READING_RECOVERIES + 1] == t + 1;
+    right &= r->of_model_11 == (threads[t].model == GIRUVE_MODEL_11 ? GIRUVE_DONE : GIRUVE_REFUSED_EXTENT);
     for (size_t i = 0; i < sizeof r->returned; i++)
         right &= r->returned[i] == GIRUVE_DONE;
     for (int i = 0; i < RECORDS * DATA; i++)

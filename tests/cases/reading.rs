@@ -1,6 +1,7 @@
 //! Whole readings written by hand.
 //!
 //! How they are written, besides what `text` says:
+//! - `model`: the pack's, a decimal number up to 255; 1 where not said.
 //! - `chain`, `arguments`, `storage`, `image`, `faults`, `extent`: bytes lent; none where not said.
 //! - `command-limit`: the chain's, 4096 where not said.
 //! - `program-lent`, `arguments-lent`: what the restart areas hold before; 64 and 16 bytes A5 where
@@ -83,6 +84,7 @@ impl Call for Said {
 
     fn take(&mut self, lent: &mut Lent, statement: &Statement) -> Result<(), String> {
         match statement.word {
+            "model" => lent.model = statement.byte_number()?,
             "command-limit" => {
                 lent.limit = statement.number()?;
                 if !self.has_list_length {
@@ -128,7 +130,8 @@ mod tests {
     const TEXT: &str = "chain 06\nstorage 01\narguments 07\nimage 08\nfaults 09\nextent 0A\n\
         case stops\nstopped 9 000020 0E 00 0203\naction 5A 000 01 001\naction 5 410 18 255\n\
         storage-after 02\nrestart-program 03\nrestart-arguments 04\ncommand-limit 7\n\
-        case refuses\nprogram-lent\narguments-lent 05\nlist-length 9\nanswer-length 10\nrefused 3\n";
+        case refuses\nmodel 11\nprogram-lent\narguments-lent 05\nlist-length 9\n\
+        answer-length 10\nrefused 3\n";
 
     fn stopped() -> Answer {
         Answer::Read(Read {
@@ -152,6 +155,7 @@ mod tests {
             panic!("two cases");
         };
         assert_eq!(stops.answer, stopped());
+        assert_eq!((stops.lent.model, refuses.lent.model), (1, 11));
         assert_eq!((stops.lent.limit, stops.lent.list_length), (7, 42));
         assert_eq!(stops.lent.program, [0xA5; 64]);
         assert_eq!(stops.lent.restart_arguments, [0xA5; 16]);
@@ -194,6 +198,7 @@ mod tests {
         for wrong in ["stopped", "stopped x 00*7", "stopped 2 00*6", "action 5"] {
             assert!(text::read::<Said>(&format!("case a\n{wrong}\n")).is_err());
         }
+        assert!(text::read::<Said>("model 256\n").is_err());
     }
 
     #[test]

@@ -1,6 +1,7 @@
 //! Recoveries written by hand.
 //!
 //! How they are written, besides what `text` says:
+//! - `model`: the pack's, a decimal number up to 255; 1 where not said.
 //! - `chain`, `report`, `extent`, `storage`: bytes lent; none where not said.
 //! - `program-lent`, `arguments-lent`: what the restart areas hold before; 64 and 16 bytes A5 where
 //!   not said.
@@ -63,6 +64,10 @@ impl Call for Said {
 
     fn take(&mut self, lent: &mut Lent, statement: &Statement) -> Result<(), String> {
         self.0 = Some(match statement.word {
+            "model" => {
+                lent.model = statement.byte_number()?;
+                return Ok(());
+            }
             "answer-length" => {
                 lent.answer_length = statement.number()?;
                 return Ok(());
@@ -94,7 +99,7 @@ mod tests {
 
     const TEXT: &str = "chain 06\nstorage 01\n\
         case restarts\nrestart 5A\nstorage-after 02\nrestart-program 03\nrestart-arguments 04\n\
-        case refuses\nextent 05\nreport 06\nprogram-lent\nanswer-length 9\nrefused 4\n";
+        case refuses\nmodel 255\nextent 05\nreport 06\nprogram-lent\nanswer-length 9\nrefused 4\n";
 
     fn restarts(lent: &mut Lent) -> Answer {
         lent.storage = vec![2];
@@ -109,6 +114,7 @@ mod tests {
         let [restarts, refuses] = &cases[..] else {
             panic!("two cases");
         };
+        assert_eq!((restarts.lent.model, refuses.lent.model), (1, 255));
         assert_eq!(restarts.lent.program, [0xA5; 64]);
         assert_eq!(restarts.lent.restart_arguments, [0xA5; 16]);
         assert_eq!(restarts.left.program, [3]);
@@ -138,6 +144,7 @@ mod tests {
             assert_eq!(cases[0].answer, answer);
         }
         assert!(text::read::<Said>("case a\naction 3\n").is_err());
+        assert!(text::read::<Said>("model 256\n").is_err());
         assert!(text::read::<Said>("case a\nrestart-program 00\n").is_err());
     }
 

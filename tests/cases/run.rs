@@ -1,6 +1,7 @@
 //! Runs written by hand.
 //!
 //! How they are written, besides what `text` says:
+//! - `model`: the pack's, a decimal number up to 255; 1 where not said.
 //! - `chain`, `arguments`, `storage`, `image`, `faults`: bytes lent; none where not said.
 //! - `restart-program`, `restart-arguments`: bytes lent besides; the run is then a restarted one.
 //! - `command-limit`: the chain's, 4096 where not said.
@@ -82,6 +83,7 @@ impl Call for Said {
 
     fn take(&mut self, lent: &mut Lent, statement: &Statement) -> Result<(), String> {
         match statement.word {
+            "model" => lent.model = statement.byte_number()?,
             "command-limit" => lent.limit = statement.number()?,
             "end" => self.ran.csw = statement.csw()?,
             "limit" => {
@@ -156,14 +158,15 @@ mod tests {
 
     #[test]
     fn what_stands_above_is_lent_in_every_case() {
-        let text = "storage 00*2  # two bytes\narguments 01\n\
+        let text = "model 11\nstorage 00*2  # two bytes\narguments 01\n\
             case first of two\nchain 06 00\n    00 01\nend 000008 0C 40 0001\n\
-            case second\narguments\nrefused 1\n";
+            case second\nmodel 2\narguments\nrefused 1\n";
         let cases = read(text).unwrap();
         let [first, second] = &cases[..] else {
             panic!("two cases");
         };
         assert_eq!(first.name, "first of two");
+        assert_eq!((first.lent.model, second.lent.model), (11, 2));
         assert_eq!(first.lent.chain, [6, 0, 0, 1]);
         assert_eq!(
             (&first.lent.storage[..], &first.lent.arguments[..]),
@@ -183,7 +186,7 @@ mod tests {
             sense 08 00*23\nmask 18\ncut 0120\nstorage-after AB\n\
             taken 000 01 002 good 4\ntaken 000 01 003 faulted 0\n";
         let case = &read(text).unwrap()[0];
-        assert_eq!(case.lent.limit, 7);
+        assert_eq!((case.lent.model, case.lent.limit), (1, 7));
         assert_eq!(case.lent.restart.as_ref().unwrap().arguments, [0x11]);
         assert_eq!(case.left.storage, [0xAB]);
         let ran = ran(text);
@@ -210,6 +213,8 @@ mod tests {
             error("command-limit 10 3\n"),
             "line 1, command-limit: one number is wanted"
         );
+        assert_eq!(error("model 0B\n"), "line 1, model: no decimal number");
+        assert_eq!(error("model 256\n"), "line 1, model: no number up to 255");
         assert_eq!(error("chain\nchain\n"), "line 2, chain: said twice");
         assert_eq!(error("case a\n"), "a: one answer is wanted");
         let two = "case a\nend 00*7\nrefused 1\n";

@@ -148,6 +148,12 @@ impl Statement<'_> {
         }
     }
 
+    /// A decimal number that one byte can hold.
+    pub fn byte_number(&self) -> Result<u8, String> {
+        let number = self.number()?;
+        u8::try_from(number).map_err(|_| self.error("no number up to 255"))
+    }
+
     /// A decimal number, and what stands behind it.
     pub fn number_first(&self) -> Result<(usize, Statement<'_>), String> {
         let Some((value, rest)) = self.values.split_first() else {

@@ -2,7 +2,9 @@
 //! one end that is at the restart's 92.
 
 use crate::lendings::GeneratedReading;
+use crate::models::model_of;
 use crate::simulator::channel::Ccw;
+use crate::simulator::check_faults;
 use crate::simulator::drive::{
     Done, Drive, UnitCheck, READ_DATA_MULTITRACK, READ_KEY_DATA_MULTITRACK,
 };
@@ -12,7 +14,6 @@ use crate::simulator::held::RECOVERY_ENTRY;
 use crate::simulator::pack::TrackAddress;
 use crate::simulator::report::MASK_PCI_FETCH;
 use crate::simulator::run::{End, Outcome, Watch};
-use crate::simulator::{check_faults, LAST_CYLINDER};
 
 rules! {
     Proviso {
@@ -136,9 +137,9 @@ pub struct Left<'a> {
 impl Faultless {
     /// Of a reading that is not refused; or the first proviso that is not met.
     pub fn of(reading: &GeneratedReading) -> Result<Faultless, Proviso> {
-        let lent = check_faults(&reading.image, &reading.faults, LAST_CYLINDER);
+        let lent = check_faults(reading.model, &reading.image, &reading.faults);
         let (_, faults) = lent.expect("questions 2 and 3 were answered yes");
-        let extent = Extent::decode(&reading.extent, LAST_CYLINDER);
+        let extent = Extent::decode(&reading.extent, model_of(reading.model));
         let extent = extent.expect("question 5 was answered yes");
         if !faults.iter().all(|fault| extent.contains(fault.track)) {
             return Err(Proviso::TracksInTheExtent);

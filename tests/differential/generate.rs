@@ -1,13 +1,14 @@
 //! Well formed images, fault lists and extents, and bytes that follow no plan.
 
+use crate::models::border_track_on;
 use crate::random::Random;
 use crate::simulator::encode;
 use crate::simulator::faults::{Fault, FAULT};
-use crate::simulator::large::track_at;
+use crate::simulator::large::{place_of, track_at};
+use crate::simulator::model::Model;
 use crate::simulator::pack::{
     Pack, Record, TrackAddress, HOME_ADDRESS, LAST_HEAD, LONGEST_RECORD, RECORD,
 };
-use crate::simulator::LAST_CYLINDER;
 use std::collections::BTreeSet;
 
 /// A field before it is written.
@@ -43,13 +44,17 @@ pub fn written(draft: &[DraftField]) -> Vec<u8> {
 }
 
 /// A generated image taken apart.
-pub fn decoded(image: &[u8]) -> Pack<'_> {
-    Pack::decode(image, LAST_CYLINDER).expect("the image is well formed")
+pub fn decoded(model: Model, image: &[u8]) -> Pack<'_> {
+    Pack::decode(image, model).expect("the image is well formed")
 }
 
-/// Tracks of a cylinder, and of the pack.
+/// Tracks of a cylinder.
 const HEADS: usize = LAST_HEAD as usize + 1;
-pub const TRACKS: usize = (LAST_CYLINDER as usize + 1) * HEADS;
+
+/// Tracks of a pack.
+pub fn tracks_of(model: Model) -> usize {
+    (usize::from(model.last_cylinder()) + 1) * HEADS
+}
 
 /// Key length and data length.
 type Lengths = (usize, usize);
@@ -116,31 +121,36 @@ fn lengths_of(random: &mut Random, how_many: usize) -> Vec<Lengths> {
     (0..how_many).map(|_| short(random)).collect()
 }
 
-/// Ascending, close together or anywhere, often with the pack's first or last track.
-fn ascending_tracks(random: &mut Random, how_many: usize) -> Vec<TrackAddress> {
+/// Ascending, close together or anywhere, often with the pack's first or last track or one at the end of a
+/// pack.
+fn ascending_tracks(random: &mut Random, model: Model, how_many: usize) -> Vec<TrackAddress> {
+    let tracks = tracks_of(model);
     let mut places = BTreeSet::new();
     if random.once_in(4) {
         places.insert(0);
     }
     if random.once_in(4) {
-        places.insert(TRACKS - 1);
+        places.insert(tracks - 1);
     }
-    let span = random.pick(&[how_many + 2, 60 + how_many, TRACKS]);
-    let first = random.within(0..=TRACKS - span);
+    if random.once_in(4) {
+        places.insert(place_of(border_track_on(random, model)));
+    }
+    let span = random.pick(&[how_many + 2, 60 + how_many, tracks]);
+    let first = random.within(0..=tracks - span);
     while places.len() < how_many {
         places.insert(first + random.below(span));
     }
     places.into_iter().take(how_many).map(track_at).collect()
 }
 
-fn one_track(random: &mut Random) -> TrackAddress {
-    ascending_tracks(random, 1)[0]
+fn one_track(random: &mut Random, model: Model) -> TrackAddress {
+    ascending_tracks(random, model, 1)[0]
 }
 
 /// Tracks with up to `most` short records after R0.
-fn tracks(random: &mut Random, how_many: usize, most: usize) -> Draft {
+fn tracks(random: &mut Random, model: Model, how_many: usize, most: usize) -> Draft {
     let mut draft = Draft::new();
-    for track in ascending_tracks(random, how_many) {
+    for track in ascending_tracks(random, model, how_many) {
         let r0 = random.pick(&[(0, 8), NO_KEY_NO_DATA, (3, 5)]);
         let others = random.within(0..=most);
         let others = lengths_of(random, others);
@@ -149,40 +159,40 @@ fn tracks(random: &mut Random, how_many: usize, most: usize) -> Draft {
     draft
 }
 
-pub type Shape = (&'static str, fn(&mut Random) -> Draft);
+pub type Shape = (&'static str, fn(&mut Random, Model) -> Draft);
 
 pub const SHAPES: [Shape; 8] = [
-    ("no tracks", |_| Draft::new()),
-    ("R0 alone", |random| {
+    ("no tracks", |_, _| Draft::new()),
+    ("R0 alone", |random, model| {
         let how_many = random.within(1..=4);
-        tracks(random, how_many, 0)
+        tracks(random, model, how_many, 0)
     }),
-    ("one track", |random| tracks(random, 1, 6)),
-    ("few tracks", |random| {
+    ("one track", |random, model| tracks(random, model, 1, 6)),
+    ("few tracks", |random, model| {
         let how_many = random.within(2..=6);
-        tracks(random, how_many, 5)
+        tracks(random, model, how_many, 5)
     }),
-    ("many tracks", |random| {
+    ("many tracks", |random, model| {
         let how_many = random.within(20..=60);
-        tracks(random, how_many, 2)
+        tracks(random, model, how_many, 2)
     }),
-    ("255 records after R0", |random| {
+    ("255 records after R0", |random, model| {
         let mut draft = Draft::new();
-        let track = one_track(random);
+        let track = one_track(random, model);
         let others = lengths_of(random, 255);
         put_track(random, &mut draft, track, (0, 8), &others);
         draft
     }),
-    ("key plus data 13,030", |random| {
+    ("key plus data 13,030", |random, model| {
         let mut draft = Draft::new();
-        let track = one_track(random);
+        let track = one_track(random, model);
         let others = [longest(random), short(random)];
         put_track(random, &mut draft, track, (0, 8), &others);
         draft
     }),
-    ("R0 of 13,030", |random| {
+    ("R0 of 13,030", |random, model| {
         let mut draft = Draft::new();
-        let track = one_track(random);
+        let track = one_track(random, model);
         let r0 = longest(random);
         put_track(random, &mut draft, track, r0, &[(0, 4)]);
         draft
@@ -191,10 +201,10 @@ pub const SHAPES: [Shape; 8] = [
 
 /// Two to five tracks that every kind of damage can be done to: each has R0 with data, a record
 /// with data, a record without, and some more, but not every R.
-pub fn ground(random: &mut Random) -> Draft {
+pub fn ground(random: &mut Random, model: Model) -> Draft {
     let mut draft = Draft::new();
     let how_many = random.within(2..=5);
-    for track in ascending_tracks(random, how_many) {
+    for track in ascending_tracks(random, model, how_many) {
         let more = if random.once_in(32) {
             252
         } else {
@@ -250,14 +260,13 @@ fn faults_of(random: &mut Random, records: &[&Record]) -> Draft {
     records.iter().map(fault_of).collect()
 }
 
-/// First and last track, with the pack's own edges and single tracks often.
-pub fn extent(random: &mut Random) -> Vec<u8> {
-    let mut places = [0, 1].map(|_| {
-        if random.once_in(2) {
-            random.below(TRACKS)
-        } else {
-            random.pick(&[0, HEADS - 1, HEADS, TRACKS - HEADS, TRACKS - 1])
-        }
+/// First and last track, with the pack's own edges, those of another model's and single tracks often.
+pub fn extent(random: &mut Random, model: Model) -> Vec<u8> {
+    let tracks = tracks_of(model);
+    let mut places = [0, 1].map(|_| match random.below(6) {
+        0..=2 => random.below(tracks),
+        3 => place_of(border_track_on(random, model)),
+        _ => random.pick(&[0, HEADS - 1, HEADS, tracks - HEADS, tracks - 1]),
     });
     places.sort();
     extent_of(places)

@@ -9,12 +9,13 @@
 use crate::simulator::areas::RunSizes;
 use crate::simulator::held::{HeldReading, HeldRecovery, HeldRun};
 
-/// Declares functions of areas, each given by its address and its length; a limit and more areas may
-/// stand behind them.
+/// Declares functions of the pack's model and of areas, each given by its address and its length; a
+/// limit and more areas may stand behind them.
 macro_rules! declare {
     ($($function:ident($($area:ident)* $(; $limit:ident $($behind:ident)*)?);)*) => {
         extern "C" {
             $(fn $function(
+                model: u8,
                 $($area: *mut u8, _: usize,)*
                 $($limit: usize, $($behind: *mut u8, _: usize,)*)?
             ) -> u8;)*
@@ -104,15 +105,16 @@ pub struct ReadingAreas<'a> {
     pub list: &'a mut [u8],
 }
 
-/// Calls a function with areas, each given by its address and its length; a limit and more areas may
-/// stand behind them.
+/// Calls a function with a model and areas, each given by its address and its length; a limit and more
+/// areas may stand behind them.
 ///
 /// Every call below is given areas that are valid for these lengths and do not overlap; the library
 /// asks nothing else of its caller.
 macro_rules! call {
-    ($function:ident, [$($area:expr),*] $(, $limit:expr, [$($behind:expr),*])?) => {
+    ($function:ident, $model:expr, [$($area:expr),*] $(, $limit:expr, [$($behind:expr),*])?) => {
         unsafe {
             $function(
+                $model,
                 $($area.as_mut_ptr(), $area.len(),)*
                 $($limit, $($behind.as_mut_ptr(), $behind.len(),)*)?
             )
@@ -120,16 +122,16 @@ macro_rules! call {
     };
 }
 
-pub fn check_image(image: &mut [u8]) -> u8 {
-    call!(giruve_check_image, [image])
+pub fn check_image(model: u8, image: &mut [u8]) -> u8 {
+    call!(giruve_check_image, model, [image])
 }
 
-pub fn check_faults(image: &mut [u8], faults: &mut [u8]) -> u8 {
-    call!(giruve_check_faults, [image, faults])
+pub fn check_faults(model: u8, image: &mut [u8], faults: &mut [u8]) -> u8 {
+    call!(giruve_check_faults, model, [image, faults])
 }
 
-pub fn check_extent(extent: &mut [u8]) -> u8 {
-    call!(giruve_check_extent, [extent])
+pub fn check_extent(model: u8, extent: &mut [u8]) -> u8 {
+    call!(giruve_check_extent, model, [extent])
 }
 
 pub fn check_areas(sizes: RunSizes) -> u8 {
@@ -149,9 +151,10 @@ pub fn check_restart_areas(program: usize, arguments: usize) -> u8 {
     unsafe { giruve_check_restart_areas(program, arguments) }
 }
 
-pub fn run(areas: RunAreas, limit: usize, answer: &mut [u8]) -> u8 {
+pub fn run(model: u8, areas: RunAreas, limit: usize, answer: &mut [u8]) -> u8 {
     call!(
         giruve_run,
+        model,
         [
             areas.chain,
             areas.arguments,
@@ -164,9 +167,10 @@ pub fn run(areas: RunAreas, limit: usize, answer: &mut [u8]) -> u8 {
     )
 }
 
-pub fn run_restart(run: RunAreas, restart: RestartAreas, answer: &mut [u8]) -> u8 {
+pub fn run_restart(model: u8, run: RunAreas, restart: RestartAreas, answer: &mut [u8]) -> u8 {
     call!(
         giruve_run_restart,
+        model,
         [
             run.chain,
             run.arguments,
@@ -180,9 +184,10 @@ pub fn run_restart(run: RunAreas, restart: RestartAreas, answer: &mut [u8]) -> u
     )
 }
 
-pub fn recover(areas: RecoveryAreas, answer: &mut [u8]) -> u8 {
+pub fn recover(model: u8, areas: RecoveryAreas, answer: &mut [u8]) -> u8 {
     call!(
         giruve_recover,
+        model,
         [
             areas.chain,
             areas.report,
@@ -195,10 +200,11 @@ pub fn recover(areas: RecoveryAreas, answer: &mut [u8]) -> u8 {
     )
 }
 
-pub fn read(areas: ReadingAreas, limit: usize, answer: &mut [u8]) -> u8 {
+pub fn read(model: u8, areas: ReadingAreas, limit: usize, answer: &mut [u8]) -> u8 {
     let (run, restart) = (areas.run, areas.restart);
     call!(
         giruve_reading,
+        model,
         [
             run.chain,
             run.arguments,
@@ -222,13 +228,13 @@ pub fn run_held(held: &mut HeldRun, answer: &mut [u8]) -> u8 {
         faults: &mut held.faults,
     };
     match &mut held.restart {
-        None => run(areas, held.limit, answer),
+        None => run(held.model, areas, held.limit, answer),
         Some(restart) => {
             let restart = RestartAreas {
                 program: &mut restart.program,
                 arguments: &mut restart.arguments,
             };
-            run_restart(areas, restart, answer)
+            run_restart(held.model, areas, restart, answer)
         }
     }
 }
@@ -244,7 +250,7 @@ pub fn recover_held(held: &mut HeldRecovery, answer: &mut [u8]) -> u8 {
             arguments: &mut held.restart_arguments,
         },
     };
-    recover(areas, answer)
+    recover(held.model, areas, answer)
 }
 
 pub fn read_held(held: &mut HeldReading, list: &mut [u8], answer: &mut [u8]) -> u8 {
@@ -263,5 +269,5 @@ pub fn read_held(held: &mut HeldReading, list: &mut [u8], answer: &mut [u8]) -> 
         },
         list,
     };
-    read(areas, held.limit, answer)
+    read(held.model, areas, held.limit, answer)
 }

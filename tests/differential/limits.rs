@@ -6,6 +6,7 @@ use crate::random::Random;
 use crate::simulator::encode;
 use crate::simulator::faults::{Fault, FAULT};
 use crate::simulator::large::{image_of, TracksOf};
+use crate::simulator::model::Model;
 use crate::simulator::pack::Pack;
 
 const LONGEST_IMAGE: usize = 1_048_576;
@@ -16,49 +17,57 @@ const FAULT_FIELD: usize = 3 + 10;
 pub const MOST_FAULTS: usize = LONGEST_LIST / FAULT_FIELD;
 
 pub fn compare_all(comparison: &mut Comparison, random: &mut Random) -> Result<(), Disagreement> {
-    images(comparison, random)?;
-    fault_lists(comparison)
+    for &model in Model::ALL {
+        images(comparison, random, model.number())?;
+        fault_lists(comparison, model)?;
+    }
+    Ok(())
 }
 
-fn images(comparison: &mut Comparison, random: &mut Random) -> Result<(), Disagreement> {
+fn images(comparison: &mut Comparison, random: &mut Random, model: u8) -> Result<(), Disagreement> {
     for tracks in [
         TracksOf::TWO_RECORDS,
+        TracksOf::SHORT_RECORDS,
         TracksOf::MANY_RECORDS,
         TracksOf::LONG_RECORD,
     ] {
         let full = image_of(LONGEST_IMAGE, tracks);
-        comparison.image("of 1,048,576 bytes", &full)?;
-        comparison.image("torn, of 1,048,575 bytes", &full[..LONGEST_IMAGE - 1])?;
+        comparison.image("of 1,048,576 bytes", model, &full)?;
+        let torn = &full[..LONGEST_IMAGE - 1];
+        comparison.image("torn, of 1,048,575 bytes", model, torn)?;
         let past = image_of(LONGEST_IMAGE + 1, tracks);
-        comparison.image("of 1,048,577 bytes", &past)?;
-        comparison.image("torn, of 1,048,576 bytes", &past[..LONGEST_IMAGE])?;
+        comparison.image("of 1,048,577 bytes", model, &past)?;
+        comparison.image("torn, of 1,048,576 bytes", model, &past[..LONGEST_IMAGE])?;
     }
-    comparison.image("of 1,048,577 bytes", &vec![0; LONGEST_IMAGE + 1])?;
-    comparison.image("random, of 1,048,576 bytes", &random.bytes(LONGEST_IMAGE))?;
-    comparison.image("of 2,097,152 bytes", &vec![0; 2 * LONGEST_IMAGE])
+    comparison.image("of 1,048,577 bytes", model, &vec![0; LONGEST_IMAGE + 1])?;
+    let bytes = random.bytes(LONGEST_IMAGE);
+    comparison.image("random, of 1,048,576 bytes", model, &bytes)?;
+    comparison.image("of 2,097,152 bytes", model, &vec![0; 2 * LONGEST_IMAGE])
 }
 
-fn fault_lists(comparison: &mut Comparison) -> Result<(), Disagreement> {
+fn fault_lists(comparison: &mut Comparison, model: Model) -> Result<(), Disagreement> {
+    let mut compare =
+        |kind, image: &[u8], list: &[u8]| comparison.faults(kind, model.number(), image, list);
     let image = image_of(65_000, TracksOf::MANY_RECORDS);
-    let list = faults_of_last_records(&decoded(&image), MOST_FAULTS + 1);
+    let list = faults_of_last_records(&decoded(model, &image), MOST_FAULTS + 1);
     let (most, past) = (&list[..MOST_FAULTS * FAULT_FIELD], &list[..]);
     let mut doubled = most.to_vec();
     doubled.copy_within(..FAULT_FIELD, (MOST_FAULTS - 1) * FAULT_FIELD);
     let mut torn = most.to_vec();
     torn.resize(LONGEST_LIST, FAULT);
     let bad_image = &image[..image.len() - 1];
-    comparison.faults("5,041 faults", &image, most)?;
-    comparison.faults("5,041 faults, one record twice", &image, &doubled)?;
-    comparison.faults("5,041 faults, image torn", bad_image, most)?;
-    comparison.faults("list of 65,536 bytes, torn", &image, &torn)?;
-    comparison.faults("5,042 faults", &image, past)?;
-    comparison.faults("5,042 faults, image torn", bad_image, past)?;
-    comparison.faults("list of 65,537 bytes", &image, &vec![0; LONGEST_LIST + 1])?;
+    compare("5,041 faults", &image, most)?;
+    compare("5,041 faults, one record twice", &image, &doubled)?;
+    compare("5,041 faults, image torn", bad_image, most)?;
+    compare("list of 65,536 bytes, torn", &image, &torn)?;
+    compare("5,042 faults", &image, past)?;
+    compare("5,042 faults, image torn", bad_image, past)?;
+    compare("list of 65,537 bytes", &image, &vec![0; LONGEST_LIST + 1])?;
     let past_image = vec![0; LONGEST_IMAGE + 1];
-    comparison.faults("image of 1,048,577 bytes", &past_image, &[0])?;
+    compare("image of 1,048,577 bytes", &past_image, &[0])?;
     let full = image_of(LONGEST_IMAGE, TracksOf::MANY_RECORDS);
-    let last = faults_of_last_records(&decoded(&full), MOST_FAULTS);
-    comparison.faults("5,041 faults, full image", &full, &last)
+    let last = faults_of_last_records(&decoded(model, &full), MOST_FAULTS);
+    compare("5,041 faults, full image", &full, &last)
 }
 
 /// A list of the last records that have data, the last first.

@@ -7,6 +7,8 @@
 mod simulator;
 
 mod arena;
+mod border_marks;
+mod calls;
 mod chains;
 mod compare;
 mod damage;
@@ -18,6 +20,7 @@ mod lendings;
 mod library;
 mod limits;
 mod marks;
+mod models;
 mod overflow_marks;
 mod protected_steps;
 mod random;
@@ -32,12 +35,15 @@ mod sizes;
 mod step_marks;
 mod tally;
 
+use border_marks::AboveEvent;
 use chains::steps;
 use compare::{Comparison, Disagreement};
 use generate::{decoded, written, SHAPES};
 use random::Random;
 use simulator::faults::FAULT;
-use simulator::pack::{HOME_ADDRESS, RECORD};
+use simulator::large::place_of;
+use simulator::model::Model;
+use simulator::pack::{TrackAddress, HOME_ADDRESS, RECORD};
 use simulator::sample;
 use std::process::ExitCode;
 
@@ -78,45 +84,74 @@ fn main() -> ExitCode {
             "inputs on which library and simulator agree",
             tally.compared,
         ),
+        ("of them on packs of model 1", tally.compared_on(Model::One)),
+        (
+            "of them on packs of model 11",
+            tally.compared_on(Model::Eleven),
+        ),
+        (
+            "of them with the number of no model, each refused",
+            tally.compared_on_none(),
+        ),
+        (
+            "on model 1 and once more on model 11, with the same answer",
+            tally.alike,
+        ),
         ("runs among these", tally.runs()),
-        ("runs with multitrack commands", tally.multitrack_runs()),
+        (
+            "runs with multitrack commands",
+            tally.sum(|of| of.multitrack_runs()),
+        ),
         ("recoveries among these", tally.recoveries()),
         (
             "recoveries that changed bytes of storage, three at most",
-            tally.recoveries_changing(),
+            tally.sum(|of| of.recoveries_changing()),
         ),
         ("readings among these", tally.readings()),
-        ("readings that began", tally.begun.all),
-        ("of them with two recoveries or more", tally.begun.of_two),
+        ("readings that began", tally.sum(|of| of.begun.all)),
+        (
+            "of them with two recoveries or more",
+            tally.sum(|of| of.begun.of_two),
+        ),
         (
             "readings of which demand 3 was asked, and held",
-            tally.met.all,
+            tally.sum(|of| of.met.all),
         ),
-        ("of these with two recoveries or more", tally.met.of_two),
-        ("readings with multitrack commands", tally.multitrack.all),
+        (
+            "of these with two recoveries or more",
+            tally.sum(|of| of.met.of_two),
+        ),
+        (
+            "of these with a cut on a cylinder that only model 11 has",
+            tally.sum(|of| of.borders.times_above(AboveEvent::DemandThree)),
+        ),
+        (
+            "readings with multitrack commands",
+            tally.sum(|of| of.multitrack.all),
+        ),
         (
             "of those with two recoveries or more",
-            tally.multitrack.of_two,
+            tally.sum(|of| of.multitrack.of_two),
         ),
         (
             "chains under a mask that forbids steps, each step answered by 10A and run on",
-            tally.protected_steps.all(),
+            tally.sum(|of| of.protected_steps.all()),
         ),
         (
             "of them with two such steps or more",
-            tally.protected_steps.of_two(),
+            tally.sum(|of| of.protected_steps.of_two()),
         ),
         (
             "reports that send to action 9 or 11",
-            tally.overflow.reports(),
+            tally.sum(|of| of.overflow.reports()),
         ),
         (
             "of them answered by a restart, which reads on as the uncut chain does",
-            tally.overflow.restarts(),
+            tally.sum(|of| of.overflow.restarts()),
         ),
         (
             "other recoveries, each answered as where 9 and 11 are not built",
-            tally.overflow.others,
+            tally.sum(|of| of.overflow.others),
         ),
     ] {
         println!("tried: {what}: {number}");
@@ -131,6 +166,7 @@ fn compare_all(comparison: &mut Comparison, random: &mut Random) -> Result<(), D
         damaged(comparison, random, turn)?;
         without_plan(comparison, random)?;
         extents(comparison, random, turn)?;
+        no_model(comparison, random, turn)?;
         area_sizes(comparison, random, turn)?;
     }
     limits::compare_all(comparison, random)?;
@@ -145,8 +181,11 @@ fn compare_all(comparison: &mut Comparison, random: &mut Random) -> Result<(), D
 /// chains.
 fn forbidden_steps(comparison: &mut Comparison, random: &mut Random) -> Result<(), Disagreement> {
     for few in steps::every(4, &steps::FEW_OVER_HEADS) {
-        for first in [1, 16] {
-            let chain = steps::forbidden(first, &[1, 0, 1], &few);
+        for head in [1, 16] {
+            let (model, cylinder) = comparison.any_cylinder();
+            let first = place_of(TrackAddress { cylinder, head });
+            let mut chain = steps::forbidden(first, &[1, 0, 1], &few);
+            chain.run.model = model.number();
             comparison.protected_steps(random, &chain)?;
         }
     }
@@ -162,11 +201,12 @@ fn well_formed(
     random: &mut Random,
     turn: usize,
 ) -> Result<(), Disagreement> {
+    let model = random.pick(Model::ALL);
     let (shape, draft) = SHAPES[turn % SHAPES.len()];
-    let image = written(&draft(random));
-    comparison.image(shape, &image)?;
-    let list = written(&generate::faults(random, &decoded(&image)));
-    comparison.faults(shape, &image, &list)
+    let image = written(&draft(random, model));
+    comparison.image(shape, model.number(), &image)?;
+    let list = written(&generate::faults(random, &decoded(model, &image)));
+    comparison.faults(shape, model.number(), &image, &list)
 }
 
 fn damaged(
@@ -174,24 +214,28 @@ fn damaged(
     random: &mut Random,
     turn: usize,
 ) -> Result<(), Disagreement> {
-    let draft = generate::ground(random);
+    let model = random.pick(Model::ALL);
+    let draft = generate::ground(random, model);
     let image = written(&draft);
-    let pack = decoded(&image);
+    let pack = decoded(model, &image);
     let faults = generate::faults(random, &pack);
     let (kind, damaged_image) = damage::damaged_image(random, turn, &draft);
-    comparison.image(kind, &damaged_image)?;
+    let model = model.number();
+    comparison.image(kind, model, &damaged_image)?;
     let (kind, damaged_faults) = damage::damaged_faults(random, turn, &faults, &pack);
-    comparison.faults(kind, &image, &damaged_faults)?;
-    comparison.faults("image damaged", &damaged_image, &written(&faults))?;
-    comparison.faults("image and list damaged", &damaged_image, &damaged_faults)
+    comparison.faults(kind, model, &image, &damaged_faults)?;
+    comparison.faults("image damaged", model, &damaged_image, &written(&faults))?;
+    let kind = "image and list damaged";
+    comparison.faults(kind, model, &damaged_image, &damaged_faults)
 }
 
 fn without_plan(comparison: &mut Comparison, random: &mut Random) -> Result<(), Disagreement> {
+    let model = random.pick(Model::ALL).number();
     let fields = [(HOME_ADDRESS, 5), (RECORD, 8), (RECORD, 9)];
     let (kind, image) = generate::without_plan(random, &fields);
-    comparison.image(kind, &image)?;
+    comparison.image(kind, model, &image)?;
     let (kind, faults) = generate::without_plan(random, &[(FAULT, 10)]);
-    comparison.faults(kind, &sample::IMAGE, &faults)
+    comparison.faults(kind, model, &sample::IMAGE, &faults)
 }
 
 fn extents(
@@ -199,12 +243,32 @@ fn extents(
     random: &mut Random,
     turn: usize,
 ) -> Result<(), Disagreement> {
-    let extent = generate::extent(random);
-    comparison.extent("well formed", &extent)?;
+    let model = random.pick(Model::ALL);
+    let extent = generate::extent(random, model);
+    let model = model.number();
+    comparison.extent("well formed", model, &extent)?;
     let (kind, damaged) = damage::damaged_extent(random, turn, &extent);
-    comparison.extent(kind, &damaged)?;
+    comparison.extent(kind, model, &damaged)?;
     let length = random.pick(&[0, 4, 7, 8, 8, 9, 16]);
-    comparison.extent("random bytes", &random.bytes(length))
+    comparison.extent("random bytes", model, &random.bytes(length))
+}
+
+/// What a pack of a model would take, with the number of none.
+fn no_model(
+    comparison: &mut Comparison,
+    random: &mut Random,
+    turn: usize,
+) -> Result<(), Disagreement> {
+    const KIND: &str = "no model";
+    let (model, number) = (random.pick(Model::ALL), models::any_other(random));
+    if turn % 2 == 0 {
+        let extent = generate::extent(random, model);
+        return comparison.extent(KIND, number, &extent);
+    }
+    let image = written(&generate::ground(random, model));
+    let list = written(&generate::faults(random, &decoded(model, &image)));
+    comparison.image(KIND, number, &image)?;
+    comparison.faults(KIND, number, &image, &list)
 }
 
 fn area_sizes(

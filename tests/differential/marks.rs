@@ -1,5 +1,6 @@
 //! What is looked for in runs. Each mark must be seen in runs from the chain and in restarted ones.
 
+use crate::border_marks::Borders;
 use crate::chains::COMMANDS;
 use crate::simulator::channel::{
     Ccw, ReadEnd, Stretch, CCW_LENGTH, FLAG_CHAIN_DATA, RESTART_PROGRAM,
@@ -165,6 +166,7 @@ pub struct Marks {
     /// Code of the present command.
     command: u8,
     over_heads: StepMarks,
+    pub borders: Borders,
     /// Address of the present read's first CCW, and what its CCWs took.
     first: usize,
     stretches: Vec<Stretch>,
@@ -256,6 +258,7 @@ impl Watch for Marks {
         drive: &Drive,
     ) {
         self.over_heads.command(ccw, argument, done, drive);
+        self.borders.command(ccw, argument, done, drive);
         self.meet_if(ccw.at < RESTART_PROGRAM, Event::CcwOfTheChain);
         self.meet_if(is_multitrack(ccw.command), Event::Multitrack);
         self.command_before = self.command;

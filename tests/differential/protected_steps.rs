@@ -2,6 +2,7 @@
 //! so the chain comes to the end that it has under a mask that allows steps.
 
 use crate::chains::{multitrack_commands, ForbiddenSteps, GeneratedRestart, GeneratedRun};
+use crate::models::model_of;
 use crate::random::Random;
 use crate::reports::GeneratedRecovery;
 use crate::simulator::channel::{Ccw, ProgramCheck, CCW_LENGTH, UNIT_CHECK};
@@ -9,7 +10,7 @@ use crate::simulator::drive::{
     is_multitrack, Done, Drive, NotFoundRule, RejectRule, UnitCheck, SEARCH_ID_EQUAL_MULTITRACK,
 };
 use crate::simulator::encode;
-use crate::simulator::extent::WHOLE_PACK;
+use crate::simulator::extent::whole_pack;
 use crate::simulator::pack::{TrackAddress, LAST_HEAD};
 use crate::simulator::recovery::{Answer, RestartAction};
 use crate::simulator::report::{Report, HEAD_REACHED};
@@ -99,7 +100,7 @@ impl fmt::Display for RunOnMark {
 #[derive(Default)]
 pub struct RunOn {
     /// The protected steps that were answered.
-    steps: usize,
+    pub steps: usize,
     marks: BTreeSet<RunOnMark>,
 }
 
@@ -252,9 +253,10 @@ fn restart_of<M: Machine>(
     step: &ProtectedStep,
 ) -> Result<GeneratedRestart, Failed<M::Wrong>> {
     let mut recovery = GeneratedRecovery {
+        model: run.model,
         chain: run.chain.clone(),
         report: encode::report(&step.report),
-        extent: WHOLE_PACK.to_vec(),
+        extent: whole_pack(model_of(run.model)).to_vec(),
         storage: run.storage.clone(),
         program: random.bytes(64),
         restart_arguments: random.bytes(16),

@@ -133,8 +133,9 @@ fn cut(stretch: Stretch, place: usize) -> Option<Stretch> {
 mod tests {
     use super::*;
     use crate::simulator::encode::{self, ccw};
-    use crate::simulator::extent::WHOLE_PACK;
+    use crate::simulator::extent::whole_pack;
     use crate::simulator::held::HeldRecovery;
+    use crate::simulator::model::Model;
 
     /// 4 bytes at 0 are read, and 2 of 6 at 4, by flags that chain; 3 at 10 are behind a TIC.
     fn chain(flags: u8) -> [[u8; 8]; 5] {
@@ -171,7 +172,7 @@ mod tests {
         let mut recovery = HeldRecovery {
             chain: chain(flags).concat(),
             report: encode::report(&report),
-            extent: WHOLE_PACK.to_vec(),
+            extent: whole_pack(Model::One).to_vec(),
             storage: vec![0; 16],
             ..HeldRecovery::default()
         };

@@ -1,105 +1,27 @@
-//! How often each answer, each broken rule and each mark of a run, a recovery or a reading was seen.
+//! How often each answer and each broken rule was seen, and on packs of each model each mark.
 
-use crate::library::{LIMIT, STOPPED};
-use crate::marks::{Event, Mark};
-use crate::overflow_marks::OverflowTally;
-use crate::protected_steps::RunOnTally;
-use crate::reading_marks::ReadingMark;
-use crate::recovery_marks::RecoveryMark;
+mod of_model;
+
+pub use of_model::OfModel;
+
+use crate::calls::{Call, AREA_CALLS, MODEL_CALLS, READING, RECOVER, RUN_CALLS};
+use crate::models;
 use crate::simulator::areas::Area;
 use crate::simulator::extent::ExtentRule;
 use crate::simulator::faults::FaultRule;
+use crate::simulator::model::Model;
 use crate::simulator::pack::ImageRule;
 use crate::simulator::Refusal;
-use std::collections::BTreeMap;
+use std::collections::{BTreeMap, BTreeSet};
 use std::fmt;
-
-/// A call, and the answers that it has.
-#[derive(Clone, Copy, PartialEq, Eq, PartialOrd, Ord)]
-pub struct Call {
-    pub name: &'static str,
-    answers: &'static [u8],
-}
-
-pub const CHECK_IMAGE: Call = Call {
-    name: "giruve_check_image",
-    answers: &[0, 1, 2],
-};
-pub const CHECK_FAULTS: Call = Call {
-    name: "giruve_check_faults",
-    answers: &[0, 1, 2, 3],
-};
-pub const CHECK_EXTENT: Call = Call {
-    name: "giruve_check_extent",
-    answers: &[0, 1, 5],
-};
-pub const CHECK_AREAS: Call = Call {
-    name: "giruve_check_areas",
-    answers: &[0, 1],
-};
-pub const CHECK_RESTART_AREAS: Call = Call {
-    name: "giruve_check_restart_areas",
-    answers: &[0, 1],
-};
-
-pub const RUN: Call = Call {
-    name: "giruve_run",
-    answers: &[0, 1, 2, 3, LIMIT],
-};
-pub const RUN_RESTART: Call = Call {
-    name: "giruve_run_restart",
-    answers: &[0, 1, 2, 3, LIMIT],
-};
-
-pub const RECOVER: Call = Call {
-    name: "giruve_recover",
-    answers: &[0, 1, 4, 5, 6, 7, 8, 9],
-};
-
-pub const READING: Call = Call {
-    name: "giruve_reading",
-    answers: &[0, 1, 2, 3, 5, LIMIT, STOPPED],
-};
-
-const CALLS: [Call; 9] = [
-    CHECK_IMAGE,
-    CHECK_FAULTS,
-    CHECK_EXTENT,
-    CHECK_AREAS,
-    CHECK_RESTART_AREAS,
-    RUN,
-    RUN_RESTART,
-    RECOVER,
-    READING,
-];
-const RUN_CALLS: [Call; 2] = [RUN, RUN_RESTART];
-
-/// The fewest readings that are enough, and the fewest runs and readings with multitrack commands; of
-/// those readings that begin, of those that meet the provisos of demand 3 and of those with multitrack
-/// commands one in three makes two recoveries or more.
-const FEWEST_READINGS: u64 = 100_000;
-const FEWEST_MET: u64 = 30_000;
-const FEWEST_MULTITRACK: u64 = 100_000;
-const TWO_RECOVERIES_ONCE_IN: u64 = 3;
 
 type Answers = BTreeMap<u8, u64>;
 
-/// Readings, and those of them with two recoveries or more.
-#[derive(Clone, Copy, Default)]
-pub struct Readings {
-    pub all: u64,
-    pub of_two: u64,
-}
-
-impl Readings {
-    fn count(&mut self, recoveries: usize) {
-        self.all += 1;
-        self.of_two += u64::from(recoveries >= 2);
-    }
-
-    fn have_two_often(self) -> bool {
-        self.of_two * TWO_RECOVERIES_ONCE_IN >= self.all
-    }
+/// Of answers from which some are missing.
+fn missing(call: Call, seen: &Answers) -> impl Iterator<Item = String> + '_ {
+    let answers = call.answers.iter();
+    let missing = answers.filter(|answer| !seen.contains_key(answer));
+    missing.map(move |answer| format!("{} answering {answer}", call.name))
 }
 
 #[derive(Default)]
@@ -107,61 +29,63 @@ pub struct Tally {
     /// Inputs compared.
     pub compared: u64,
     answers: BTreeMap<(Call, &'static str), Answers>,
-    rules: BTreeMap<Refusal, u64>,
-    marks: BTreeMap<(Call, Mark), u64>,
-    recovery_marks: BTreeMap<RecoveryMark, u64>,
-    reading_marks: BTreeMap<ReadingMark, u64>,
-    /// Not refused.
-    pub begun: Readings,
-    /// Of these, where the provisos of demand 3 are met.
-    pub met: Readings,
-    /// Of those begun, where a multitrack command was begun.
-    pub multitrack: Readings,
-    pub protected_steps: RunOnTally,
-    pub overflow: OverflowTally,
+    /// By model; none where a call takes none, or a number of no model.
+    rules: BTreeMap<(Refusal, Option<Model>), u64>,
+    models: BTreeMap<Model, OfModel>,
+    /// Numbers of no model, and how often each call was given them.
+    others: BTreeMap<(Call, u8), u64>,
+    /// Inputs on packs of model 1 that were answered alike on model 11.
+    pub alike: u64,
 }
 
 impl Tally {
+    /// Counts a call that takes no model.
     pub fn count(&mut self, call: Call, kind: &'static str, answer: u8) {
         self.compared += 1;
         let answers = self.answers.entry((call, kind)).or_default();
         *answers.entry(answer).or_default() += 1;
     }
 
-    pub fn count_rule(&mut self, refusal: Refusal) {
-        *self.rules.entry(refusal).or_default() += 1;
+    /// Counts a call that takes one; what is seen on packs of it, unless it is the number of none.
+    pub fn count_on(
+        &mut self,
+        call: Call,
+        kind: &'static str,
+        number: u8,
+        answer: u8,
+    ) -> Option<&mut OfModel> {
+        self.count(call, kind, answer);
+        let Ok(model) = Model::check(number) else {
+            *self.others.entry((call, number)).or_default() += 1;
+            return None;
+        };
+        let of_model = self.models.entry(model).or_default();
+        of_model.count(call, answer);
+        Some(of_model)
     }
 
-    /// Counts a run of which these are the marks.
-    pub fn count_marks(&mut self, call: Call, marks: impl IntoIterator<Item = Mark>) {
-        for mark in marks {
-            *self.marks.entry((call, mark)).or_default() += 1;
-        }
+    pub fn count_rule(&mut self, model: Option<Model>, refusal: Refusal) {
+        *self.rules.entry((refusal, model)).or_default() += 1;
     }
 
-    /// Counts a recovery of which these are the marks.
-    pub fn count_recovery_marks(&mut self, marks: impl IntoIterator<Item = RecoveryMark>) {
-        for mark in marks {
-            *self.recovery_marks.entry(mark).or_default() += 1;
-        }
+    /// What was seen on packs of a model.
+    pub fn on(&mut self, model: Model) -> &mut OfModel {
+        self.models.entry(model).or_default()
     }
 
-    /// Counts what a reading was marked by.
-    pub fn count_reading_marks(&mut self, marks: impl IntoIterator<Item = ReadingMark>) {
-        for mark in marks {
-            *self.reading_marks.entry(mark).or_default() += 1;
-        }
+    /// The sum over both models.
+    pub fn sum(&self, of: impl Fn(&OfModel) -> u64) -> u64 {
+        self.models.values().map(of).sum()
     }
 
-    /// Counts a reading that was not refused.
-    pub fn count_reading(&mut self, recoveries: usize, provisos_met: bool, is_multitrack: bool) {
-        self.begun.count(recoveries);
-        if provisos_met {
-            self.met.count(recoveries);
-        }
-        if is_multitrack {
-            self.multitrack.count(recoveries);
-        }
+    /// Inputs on packs of a model.
+    pub fn compared_on(&self, model: Model) -> u64 {
+        self.models.get(&model).map_or(0, OfModel::compared)
+    }
+
+    /// Inputs with the number of no model.
+    pub fn compared_on_none(&self) -> u64 {
+        self.others.values().sum()
     }
 
     /// Runs compared.
@@ -169,24 +93,9 @@ impl Tally {
         RUN_CALLS.iter().map(|&call| self.calls(call)).sum()
     }
 
-    /// Of them, those in which a multitrack command was begun.
-    pub fn multitrack_runs(&self) -> u64 {
-        let mark = Mark::Met(Event::Multitrack);
-        let runs = RUN_CALLS.iter().map(|&call| self.runs_with(call, mark));
-        runs.sum()
-    }
-
     /// Recoveries compared.
     pub fn recoveries(&self) -> u64 {
         self.calls(RECOVER)
-    }
-
-    pub fn recoveries_changing(&self) -> u64 {
-        let changing = self.recovery_marks.iter().filter(|(mark, _)| match mark {
-            RecoveryMark::Changed(_, number) => *number > 0,
-            _ => false,
-        });
-        changing.map(|(_, times)| times).sum()
     }
 
     /// Readings compared.
@@ -198,139 +107,86 @@ impl Tally {
         self.total(call).into_values().sum()
     }
 
-    /// Prints how often each answer was seen, by call and by kind, each broken rule, and in how
-    /// many runs, recoveries and readings each mark was.
+    /// Prints how often each answer was seen, by call and by kind, and each broken rule; then what was seen
+    /// on packs of each model.
     pub fn print(&self) {
-        for call in CALLS {
+        for call in MODEL_CALLS.into_iter().chain(AREA_CALLS) {
             println!("{:<36}{}", call.name, Counts(&self.total(call)));
             for ((_, kind), answers) in self.kinds(call) {
                 println!("  {kind:<34}{}", Counts(answers));
             }
         }
-        println!("rules broken, as the simulator names them");
-        for (rule, times) in &self.rules {
-            println!("  {:<34}{times:>9}", format!("{rule:?}"));
+        println!(
+            "{:<36}{:>9}{:>10}{:>10}",
+            "rules broken, named by the simulator", "no model", "model 1", "model 11"
+        );
+        for rule in self
+            .rules
+            .keys()
+            .map(|(rule, _)| rule)
+            .collect::<BTreeSet<_>>()
+        {
+            let models = [None, Some(Model::One), Some(Model::Eleven)];
+            let [none, one, eleven] = models.map(|model| self.times_broken(*rule, model));
+            let rule = format!("{rule:?}");
+            println!("  {rule:<34}{none:>9}{one:>10}{eleven:>10}");
         }
-        println!("{:<50}{:>9}{:>11}", "runs with", "chain", "restarted");
-        for mark in Mark::all() {
-            let [chain, restarted] = RUN_CALLS.map(|call| self.runs_with(call, mark));
-            let mark = mark.to_string();
-            println!("  {mark:<48}{chain:>9}{restarted:>11}");
+        println!("numbers of no model, each of them refused");
+        for call in MODEL_CALLS {
+            let numbers = self.others.range((call, 0)..=(call, 255));
+            let (how_many, times) = numbers.fold((0, 0), |(how_many, sum), (_, times)| {
+                (how_many + 1, sum + times)
+            });
+            println!("  {:<34}{how_many:>9}{times:>10} times", call.name);
         }
-        println!("recoveries with");
-        for mark in RecoveryMark::all() {
-            let times = self.recoveries_with(mark);
-            println!("  {:<58}{times:>10}", mark.to_string());
+        for (model, of_model) in &self.models {
+            println!("on packs of model {}", model.number());
+            of_model.print(*model);
         }
-        println!("readings with");
-        for mark in ReadingMark::all() {
-            let times = self.readings_with(mark);
-            println!("  {:<58}{times:>10}", mark.to_string());
-        }
-        println!("chains under a mask that forbids steps");
-        print!("{}", self.protected_steps);
-        print!("{}", self.overflow);
     }
 
-    fn readings_with(&self, mark: ReadingMark) -> u64 {
-        self.reading_marks.get(&mark).copied().unwrap_or(0)
+    fn times_broken(&self, rule: Refusal, model: Option<Model>) -> u64 {
+        self.rules.get(&(rule, model)).copied().unwrap_or(0)
     }
 
-    fn recoveries_with(&self, mark: RecoveryMark) -> u64 {
-        self.recovery_marks.get(&mark).copied().unwrap_or(0)
-    }
-
-    fn runs_with(&self, call: Call, mark: Mark) -> u64 {
-        self.marks.get(&(call, mark)).copied().unwrap_or(0)
-    }
-
-    /// Answers, rules and marks that no input brought out.
+    /// Answers, rules, marks and numbers of no model that no input brought out.
     pub fn never_seen(&self) -> Vec<String> {
-        let answers = CALLS.iter().flat_map(|&call| {
-            let seen = self.total(call);
-            let missing = call
-                .answers
-                .iter()
-                .filter(move |&&answer| !seen.contains_key(&answer));
-            missing.map(move |answer| format!("{} answering {answer}", call.name))
-        });
-        let rules = (Area::ALL.iter().copied().map(Refusal::Areas))
-            .chain(ImageRule::ALL.iter().copied().map(Refusal::Image))
-            .chain(FaultRule::ALL.iter().copied().map(Refusal::Faults))
-            .chain(ExtentRule::ALL.iter().copied().map(Refusal::Extent))
-            .filter(|rule| !self.rules.contains_key(rule))
-            .map(|rule| format!("{rule:?}"));
-        let marks = RUN_CALLS.iter().flat_map(|&call| {
-            let missing = Mark::all().into_iter();
-            let missing = missing.filter(move |&mark| self.runs_with(call, mark) == 0);
-            missing.map(move |mark| format!("{} with {mark}", call.name))
-        });
-        let recovery_marks = RecoveryMark::all()
-            .into_iter()
-            .filter(|&mark| self.recoveries_with(mark) == 0)
-            .map(|mark| format!("{} with {mark}", RECOVER.name));
-        let reading_marks = ReadingMark::all()
-            .into_iter()
-            .filter(|&mark| self.readings_with(mark) == 0)
-            .map(|mark| format!("{} with {mark}", READING.name));
-        let protected_steps = self
-            .protected_steps
-            .never_seen()
-            .map(|mark| format!("protected step, {mark}"));
-        answers
-            .chain(rules)
-            .chain(marks)
-            .chain(recovery_marks)
-            .chain(reading_marks)
-            .chain(protected_steps)
-            .collect()
+        let rules = || {
+            (Area::ALL.iter().copied().map(Refusal::Areas))
+                .chain(ImageRule::ALL.iter().copied().map(Refusal::Image))
+                .chain(FaultRule::ALL.iter().copied().map(Refusal::Faults))
+                .chain(ExtentRule::ALL.iter().copied().map(Refusal::Extent))
+        };
+        let mut never = Vec::new();
+        for call in AREA_CALLS {
+            never.extend(missing(call, &self.total(call)));
+        }
+        for &model in Model::ALL {
+            let on = |what: String| format!("model {}: {what}", model.number());
+            let rules = rules().filter(|&rule| self.times_broken(rule, Some(model)) == 0);
+            never.extend(rules.map(|rule| on(format!("{rule:?}"))));
+            let of_model = self.models.get(&model);
+            let of_model = of_model.map_or_else(|| vec!["inputs".into()], OfModel::never_seen);
+            never.extend(of_model.into_iter().map(on));
+        }
+        for call in MODEL_CALLS {
+            let numbers = models::others();
+            let numbers = numbers.filter(|&number| !self.others.contains_key(&(call, number)));
+            never.extend(numbers.map(|number| format!("{} of model {number}", call.name)));
+        }
+        never
     }
 
     /// What there are too few of.
     pub fn too_few(&self) -> Vec<String> {
-        let overflow = self
-            .overflow
-            .seldom_seen()
-            .map(|(action, mark)| format!("action {action:?}, {mark}"));
-        [
-            (self.readings() >= FEWEST_READINGS, "readings"),
-            (
-                self.begun.have_two_often(),
-                "readings with two recoveries or more",
-            ),
-            (
-                self.met.all >= FEWEST_MET,
-                "readings that meet the provisos of demand 3",
-            ),
-            (
-                self.met.have_two_often(),
-                "such readings with two recoveries or more",
-            ),
-            (
-                self.multitrack_runs() >= FEWEST_MULTITRACK,
-                "runs with multitrack commands",
-            ),
-            (
-                self.multitrack.all >= FEWEST_MULTITRACK,
-                "readings with multitrack commands",
-            ),
-            (
-                self.multitrack.have_two_often(),
-                "of these with two recoveries or more",
-            ),
-            (
-                self.protected_steps.are_enough(),
-                "chains under a mask that forbids steps",
-            ),
-            (
-                self.overflow.are_enough(),
-                "reports that send to action 9 or 11",
-            ),
-        ]
-        .into_iter()
-        .filter_map(|(enough, of)| (!enough).then(|| of.to_string()))
-        .chain(overflow)
-        .collect()
+        let models = self.models.iter().flat_map(|(model, of_model)| {
+            let on = move |what: String| format!("model {}: {what}", model.number());
+            let too_few = of_model.too_few(*model).into_iter();
+            let half = 5 * of_model.compared() >= 2 * self.compared;
+            let inputs = (!half).then(|| "two inputs of five".to_string());
+            too_few.chain(inputs).map(on)
+        });
+        models.collect()
     }
 
     fn kinds(&self, call: Call) -> impl Iterator<Item = (&(Call, &'static str), &Answers)> {

@@ -42,6 +42,15 @@ pub fn range(text: &str) -> Result<(usize, usize), String> {
     }
 }
 
+/// A range on this model: "0 to 410, on model 11 to 814", or one that both have.
+pub fn range_on(model: u8, text: &str) -> Result<(usize, usize), String> {
+    match text.split_once(", on model 11 to ") {
+        Some((first, last)) if model == 11 => Ok((range(first)?.0, number(last)?)),
+        Some((both, _)) => range(both),
+        None => range(text),
+    }
+}
+
 /// A number in so many bytes, the highest first.
 pub fn big_endian(value: usize, length: usize) -> Vec<u8> {
     (0..length)

@@ -395,7 +395,11 @@ fn unit_checks(book: &Book) -> Checked {
         ("mask bit 2, 5 or 6", reject(RejectRule::MaskBits)),
         ("a sector from 80 to FE", reject(RejectRule::Sector)),
         (
-            "a seek to cylinder 411 or head 19, or above",
+            "on model 1 a seek to cylinder 411 or head 19, or above",
+            reject(RejectRule::SeekOffThePack),
+        ),
+        (
+            "on model 11 a seek to cylinder 815 or head 19, or above",
             reject(RejectRule::SeekOffThePack),
         ),
         (
@@ -450,7 +454,9 @@ fn unit_checks(book: &Book) -> Checked {
     asked.sort_unstable();
     ensure!(found == asked, "line {}: other causes", table.line);
     for [check, unit, sense, cause, chain, arguments] in table.each() {
+        let on_11 = cause.starts_with("on model 11 ");
         let held = HeldRun {
+            model: if on_11 { 11 } else { 1 },
             chain: bytes(chain)?,
             arguments: bytes(arguments)?,
             storage: vec![KEPT; 64],

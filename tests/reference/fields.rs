@@ -1,23 +1,26 @@
 //! Fields: tags and lengths, what each part allows, what is not well formed.
 
 use super::book::{split, tagged, Book};
-use super::bytes::{bounds, byte, number, range, Checked};
+use super::bytes::{bounds, byte, number, range, range_on, Checked};
 use super::inputs::worked;
+use super::models::models;
 use crate::library;
 
 pub fn check(book: &Book) -> Checked {
-    tags(book)?;
-    home_and_record(book)?;
-    fault(book)?;
-    extent(book)?;
+    for (model, last_cylinder) in models(book)? {
+        tags(book, model)?;
+        home_and_record(book, model)?;
+        fault(book, model)?;
+        extent(book, model, last_cylinder)?;
+        image_rules(book, model, last_cylinder)?;
+        fault_rules(book, model)?;
+    }
     report(book)?;
-    image_rules(book)?;
-    fault_rules(book)?;
     report_rules(book)
 }
 
 /// Each tag with its length, and with lengths beside it.
-fn tags(book: &Book) -> Checked {
+fn tags(book: &Book, model: u8) -> Checked {
     let columns = ["tag", "field", "length", "stands in", "C name"];
     let table = book.page.table("Fields", &columns)?;
     table.has(&[
@@ -31,7 +34,7 @@ fn tags(book: &Book) -> Checked {
                     let home = sized(&book.home.put(&[])?, n);
                     let record = book.record((0, 0), 0, &[], &[])?;
                     let mut image = [tagged(0x01, &home), record].concat();
-                    Ok(library::check_image(&mut image))
+                    Ok(library::check_image(model, &mut image))
                 };
                 bounds(field, lengths, 2, &mut sized)
             }
@@ -40,13 +43,13 @@ fn tags(book: &Book) -> Checked {
                 let whole = book.record_contents((0, 0), 0, &[], &data)?;
                 let home = book.home_address(0, 0)?;
                 let mut image = [home, tagged(0x02, &sized(&whole, n))].concat();
-                Ok(library::check_image(&mut image))
+                Ok(library::check_image(model, &mut image))
             }),
             ("20", "fault list") => bounds(field, lengths, 3, |n| {
                 let mut image = book.track((0, 0), &[(1, &[5])])?;
                 let whole = book.fault((0, 0), 1, 1, 0)?;
                 let mut faults = tagged(0x20, &sized(&whole[3..], n));
-                Ok(library::check_faults(&mut image, &mut faults))
+                Ok(library::check_faults(model, &mut image, &mut faults))
             }),
             ("10" | "11" | "12" | "13" | "14" | "15", "report") => bounds(field, lengths, 4, |n| {
                 recovered(book, |fields| set(fields, tag, |old| sized(old, n)))
@@ -103,6 +106,7 @@ fn recovered(book: &Book, change: impl Fn(&mut Fields) -> Checked) -> Result<u8,
 
 /// Asks a part that is one value or a range at its bounds.
 fn part(
+    model: u8,
     name: &str,
     allowed: &str,
     refusal: u8,
@@ -116,14 +120,14 @@ fn part(
         );
         return Ok(());
     }
-    bounds(name, range(allowed)?, refusal, trial)
+    bounds(name, range_on(model, allowed)?, refusal, trial)
 }
 
-fn home_and_record(book: &Book) -> Checked {
+fn home_and_record(book: &Book, model: u8) -> Checked {
     let columns = ["offset", "length", "contents", "allowed"];
     let [home, record] = book.page.alike("Image", &columns)?;
     for [_, _, contents, allowed] in home.each() {
-        part(contents, allowed, 2, |n| {
+        part(model, contents, allowed, 2, |n| {
             let home = book.field("home address", &book.home.put(&[(contents, n)])?)?;
             let track = match contents {
                 "cylinder" => (n, 0),
@@ -131,14 +135,14 @@ fn home_and_record(book: &Book) -> Checked {
                 _ => (0, 0),
             };
             let mut image = [home, book.record(track, 0, &[], &[])?].concat();
-            Ok(library::check_image(&mut image))
+            Ok(library::check_image(model, &mut image))
         })?;
     }
     for [_, _, contents, allowed] in record.each() {
         let image = |track, number, key: &[u8], data: &[u8]| {
             let mut image = book.track((1, 1), &[])?;
             image.extend(book.record(track, number, key, data)?);
-            Ok(library::check_image(&mut image))
+            Ok(library::check_image(model, &mut image))
         };
         let holds = match (contents, allowed) {
             ("cylinder", "the home address's") => image((2, 1), 1, &[], &[])? == 2,
@@ -146,7 +150,9 @@ fn home_and_record(book: &Book) -> Checked {
             ("R", "0 to 255") => image((1, 1), 255, &[], &[])? == 0,
             ("key length", "0 to 255") => image((1, 1), 1, &[0; 255], &[])? == 0,
             ("data length", _) => {
-                part(contents, allowed, 2, |n| image((1, 1), 1, &[], &vec![0; n]))?;
+                part(model, contents, allowed, 2, |n| {
+                    image((1, 1), 1, &[], &vec![0; n])
+                })?;
                 true
             }
             ("key" | "data", "any") => image((1, 1), 1, &[0xFF; 9], &[0xFF; 9])? == 0,
@@ -157,20 +163,20 @@ fn home_and_record(book: &Book) -> Checked {
     Ok(())
 }
 
-fn fault(book: &Book) -> Checked {
+fn fault(book: &Book, model: u8) -> Checked {
     let columns = ["offset", "length", "contents", "allowed"];
     let table = book.page.table("Fault list", &columns)?;
     const DATA: [u8; 5] = [1; 5];
     for [_, _, contents, allowed] in table.each() {
         let (first, last) = match contents {
-            "cylinder" | "head" | "R" => range(allowed)?,
+            "cylinder" | "head" | "R" => range_on(model, allowed)?,
             "error displacement" => {
                 let first = allowed.strip_suffix(" to the data length");
                 let first = number(first.ok_or(format!("displacement {allowed}"))?)?;
                 bounds(contents, (first, DATA.len()), 3, |n| {
                     let mut image = book.track((0, 0), &[(1, &DATA)])?;
                     let mut faults = book.fault((0, 0), 1, n, 0)?;
-                    Ok(library::check_faults(&mut image, &mut faults))
+                    Ok(library::check_faults(model, &mut image, &mut faults))
                 })?;
                 continue;
             }
@@ -179,7 +185,7 @@ fn fault(book: &Book) -> Checked {
                 for pattern in [0, 0xFF_FFFF] {
                     let mut image = book.track((0, 0), &[(1, &DATA)])?;
                     let mut faults = book.fault((0, 0), 1, 1, pattern)?;
-                    let answer = library::check_faults(&mut image, &mut faults);
+                    let answer = library::check_faults(model, &mut image, &mut faults);
                     ensure!(answer == 0, "pattern {pattern:06X}: {answer}");
                 }
                 continue;
@@ -190,7 +196,7 @@ fn fault(book: &Book) -> Checked {
         let answer = |track, record| {
             let mut image = book.track(track, &[(record, &DATA)])?;
             let mut faults = book.fault(track, record, 1, 0)?;
-            Ok::<u8, String>(library::check_faults(&mut image, &mut faults))
+            Ok::<u8, String>(library::check_faults(model, &mut image, &mut faults))
         };
         for one in [first, last] {
             let answered = match contents {
@@ -203,7 +209,7 @@ fn fault(book: &Book) -> Checked {
         if contents == "R" {
             let mut image = book.track((0, 0), &[(first, &DATA)])?;
             let mut faults = book.fault((0, 0), first - 1, 1, 0)?;
-            let answered = library::check_faults(&mut image, &mut faults);
+            let answered = library::check_faults(model, &mut image, &mut faults);
             ensure!(first == 1 && answered == 3, "fault: R {}", first - 1);
         } else {
             ensure!(first == 0, "fault: {contents} from {first}");
@@ -221,25 +227,31 @@ fn fault(book: &Book) -> Checked {
     Ok(())
 }
 
-fn extent(book: &Book) -> Checked {
+fn extent(book: &Book, model: u8, last_cylinder: usize) -> Checked {
     let columns = ["offset", "length", "contents", "allowed"];
     let table = book.page.table("Extent", &columns)?;
     ensure!(book.extent.length() == 8, "an extent of another length");
     for [_, _, contents, allowed] in table.each() {
-        bounds(contents, range(allowed)?, 5, |n| {
-            let mut values = vec![("last cylinder", 410), ("last head", 18)];
+        bounds(contents, range_on(model, allowed)?, 5, |n| {
+            let mut values = vec![("last cylinder", last_cylinder), ("last head", 18)];
             if contents == "last cylinder" {
                 values = vec![("last head", 18)];
             }
             values.retain(|(name, _)| *name != contents);
             values.push((contents, n));
-            Ok(library::check_extent(&mut book.extent.put(&values)?))
+            Ok(library::check_extent(model, &mut book.extent.put(&values)?))
         })?;
     }
     let mut after = book.tracks((1, 0), (0, 18))?;
-    ensure!(library::check_extent(&mut after) == 5, "first after last");
+    ensure!(
+        library::check_extent(model, &mut after) == 5,
+        "first after last"
+    );
     let mut same = book.tracks((1, 4), (1, 4))?;
-    ensure!(library::check_extent(&mut same) == 0, "one track alone");
+    ensure!(
+        library::check_extent(model, &mut same) == 0,
+        "one track alone"
+    );
     Ok(())
 }
 
@@ -316,7 +328,7 @@ fn length(book: &Book, tag: &str) -> Result<usize, String> {
 
 // ---- what is not well formed, a trial for each row
 
-fn image_rules(book: &Book) -> Checked {
+fn image_rules(book: &Book, model: u8, last_cylinder: usize) -> Checked {
     let home = book.home_address(1, 1)?;
     let other = book.home_address(0, 18)?;
     let zero = book.record((1, 1), 0, &[], &[0; 8])?;
@@ -351,8 +363,8 @@ fn image_rules(book: &Book) -> Checked {
             ],
         ),
         (
-            "a cylinder above 410, a head above 18",
-            vec![at((411, 0))?, at((0, 19))?],
+            "a cylinder above 410, or on model 11 above 814; a head above 18",
+            vec![at((last_cylinder + 1, 0))?, at((0, 19))?],
         ),
         (
             "a track that does not come after the track before it",
@@ -395,17 +407,20 @@ fn image_rules(book: &Book) -> Checked {
     ];
     let table = book.page.table("Image", &["in an image"])?;
     table.has(&wrong.each_ref().map(|(rule, _)| *rule))?;
-    ensure!(library::check_image(&mut good.clone()) == 0, "a good image");
+    ensure!(
+        library::check_image(model, &mut good.clone()) == 0,
+        "a good image"
+    );
     for (rule, images) in wrong {
         for mut image in images {
-            let answer = library::check_image(&mut image);
+            let answer = library::check_image(model, &mut image);
             ensure!(answer == 2, "{rule}: {answer}");
         }
     }
     Ok(())
 }
 
-fn fault_rules(book: &Book) -> Checked {
+fn fault_rules(book: &Book, model: u8) -> Checked {
     let mut image = book.track((0, 0), &[(1, &[1, 2, 3]), (2, &[])])?;
     let good = book.fault((0, 0), 1, 3, 0)?;
     let of = |track, record, displacement| book.fault(track, record, displacement, 0);
@@ -442,11 +457,11 @@ fn fault_rules(book: &Book) -> Checked {
     ];
     let table = book.page.table("Fault list", &["in a fault list"])?;
     table.has(&wrong.each_ref().map(|(rule, _)| *rule))?;
-    let answer = library::check_faults(&mut image, &mut good.clone());
+    let answer = library::check_faults(model, &mut image, &mut good.clone());
     ensure!(answer == 0, "a good fault list: {answer}");
     for (rule, lists) in wrong {
         for mut list in lists {
-            let answer = library::check_faults(&mut image, &mut list);
+            let answer = library::check_faults(model, &mut image, &mut list);
             ensure!(answer == 3, "{rule}: {answer}");
         }
     }

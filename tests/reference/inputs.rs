@@ -114,7 +114,7 @@ pub fn worked_reading(book: &Book) -> Result<HeldReading, String> {
         image: fields(book, &input, &["home address", "record"])?,
         faults: fields(book, &input, &["fault"])?,
         limit: 64,
-        restart: None,
+        ..HeldRun::default()
     };
     let extent = contents(book, &input, "extent")?.to_vec();
     Ok(HeldReading::of_run(run, extent))

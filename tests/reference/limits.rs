@@ -8,6 +8,9 @@ use crate::simulator::held::{HeldRestart, HeldRun};
 use crate::simulator::large::{image_of, TracksOf};
 use crate::simulator::sample;
 
+/// No size goes by the model.
+const MODEL: u8 = 1;
+
 const AREAS: [&str; 4] = ["area", "smallest", "largest", "C name"];
 
 pub fn check(book: &Book) -> Checked {
@@ -81,7 +84,7 @@ fn areas(book: &Book) -> Checked {
                 faults: size,
                 ..LEAST
             }),
-            "extent" => Ok(library::check_extent(&mut vec![0; size])),
+            "extent" => Ok(library::check_extent(MODEL, &mut vec![0; size])),
             "restart program" => Ok(library::check_restart_areas(size, arguments)),
             "restart arguments" => Ok(library::check_restart_areas(program, size)),
             "answer of a run" => Ok(library::run_held(&mut sample::run(), &mut vec![0; size])),
@@ -140,7 +143,7 @@ fn entries(book: &Book, entry: usize) -> Checked {
 /// Images that are well formed and exactly so long.
 fn image_of_each_size() -> Checked {
     for (size, expected) in [(1_048_576, 0), (1_048_577, 1)] {
-        let answer = library::check_image(&mut image_of(size, TracksOf::TWO_RECORDS));
+        let answer = library::check_image(MODEL, &mut image_of(size, TracksOf::TWO_RECORDS));
         ensure!(answer == expected, "an image of {size} bytes: {answer}");
     }
     Ok(())

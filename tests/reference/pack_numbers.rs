@@ -6,12 +6,16 @@ use super::questions::changed;
 use crate::library;
 use crate::simulator::held::HeldRecovery;
 
+/// Of all numbers but those of tracks, which alone go by it.
+const MODEL: u8 = 1;
+
 pub fn check(book: &Book) -> Checked {
     let table = book
         .page
         .table("Limits", &["number", "smallest", "largest"])?;
     table.has(&[
-        "cylinder",
+        "cylinder of model 1",
+        "cylinder of model 11",
         "head",
         "R of a record",
         "records on a track, with R0",
@@ -29,15 +33,14 @@ pub fn check(book: &Book) -> Checked {
     ])?;
     for [name, smallest, largest] in table.each() {
         let both = || Ok::<_, String>((number(smallest)?, number(largest)?));
-        let image = |image: Result<Vec<u8>, String>| Ok(library::check_image(&mut image?));
+        let image = |image: Result<Vec<u8>, String>| Ok(library::check_image(MODEL, &mut image?));
         match name {
-            "cylinder" => {
-                bounds(name, both()?, 2, |n| image(book.track((n, 0), &[])))?;
-                extent(book, name, both()?, |n| (n, 0))?;
-            }
+            "cylinder of model 1" => tracks(book, 1, name, both()?, |n| (n, 0))?,
+            "cylinder of model 11" => tracks(book, 11, name, both()?, |n| (n, 0))?,
             "head" => {
-                bounds(name, both()?, 2, |n| image(book.track((0, n), &[])))?;
-                extent(book, name, both()?, |n| (0, n))?;
+                for model in [1, 11] {
+                    tracks(book, model, name, both()?, |n| (0, n))?;
+                }
             }
             "R of a record" => one_byte(name, both()?, |n| {
                 let other = if n == 0 { 1 } else { n };
@@ -129,15 +132,21 @@ fn one_byte(
     Ok(())
 }
 
-fn extent(
+/// A number of a track's, in images and in extents.
+fn tracks(
     book: &Book,
+    model: u8,
     name: &str,
     allowed: (usize, usize),
     track: impl Fn(usize) -> (usize, usize),
 ) -> Checked {
+    bounds(name, allowed, 2, |n| {
+        let mut image = book.track(track(n), &[])?;
+        Ok(library::check_image(model, &mut image))
+    })?;
     bounds(name, allowed, 5, |n| {
         let mut extent = book.tracks(track(n), track(n))?;
-        Ok(library::check_extent(&mut extent))
+        Ok(library::check_extent(model, &mut extent))
     })
 }
 
@@ -154,7 +163,7 @@ fn faulted(book: &Book, record: usize, displacement: usize) -> Result<u8, String
     let records: Vec<(usize, &[u8])> = (1..=255).map(|number| (number, &DATA[..])).collect();
     let mut image = book.track((0, 0), &records)?;
     let mut faults = book.fault((0, 0), record, displacement, 0)?;
-    Ok(library::check_faults(&mut image, &mut faults))
+    Ok(library::check_faults(MODEL, &mut image, &mut faults))
 }
 
 /// Recovery from a cut of a chain with one read, long enough for any record.

@@ -40,6 +40,10 @@ pub fn changed_on(
     for change in changes.split("; ") {
         let no_change = || format!("'{change}' is no change");
         let (place, to) = change.split_once(" = ").ok_or_else(no_change)?;
+        if place == "model" {
+            held.model = number(to)? as u8;
+            continue;
+        }
         let absent = to == "absent";
         let to = if absent { vec![] } else { bytes(to)? };
         let mut of_field = |tag: u8| {
@@ -80,11 +84,16 @@ fn numbers(book: &Book) -> Checked {
     let table = book
         .page
         .table("Questions", &["number", "asks", "C name"])?;
-    table.has(&["1", "2", "3", "4", "5", "6", "7", "8", "9"])
+    table.has(&["1", "2", "3", "4", "5", "6", "7", "8", "9"])?;
+    const SAID: &str =
+        "a question's number, from 1 to 63; runs and readings also 64, readings also 65.";
+    ensure!(book.page.says(SAID), "the page lacks '{SAID}'");
+    Ok(())
 }
 
 fn calls(book: &Book) -> Checked {
-    let table = book.page.table("Questions", &["call", "questions"])?;
+    let columns = ["call", "takes the model", "questions"];
+    let table = book.page.table("Questions", &columns)?;
     let calls: [(&str, &[u8]); 9] = [
         ("giruve_check_areas", &[1]),
         ("giruve_check_restart_areas", &[1]),
@@ -97,7 +106,7 @@ fn calls(book: &Book) -> Checked {
         ("giruve_reading", &[1, 2, 3, 5]),
     ];
     table.has(&calls.map(|(call, _)| call))?;
-    for [call, questions] in table.each() {
+    for [call, takes, questions] in table.each() {
         let mut asked = Vec::new();
         for question in questions.split(", ") {
             asked.push(number(question)? as u8);
@@ -110,28 +119,54 @@ fn calls(book: &Book) -> Checked {
         // Each alone, and each with one of a higher number.
         for (at, &first) in asked.iter().enumerate() {
             for &second in &asked[at..] {
-                let answer = refused(book, call, &[first, second])?;
+                let answer = refused(book, call, MODEL, &[first, second])?;
                 ensure!(
                     answer == first,
                     "{call}: questions {first} and {second} are answered by {answer}"
                 );
             }
         }
-        ensure!(refused(book, call, &[])? == 0, "{call} refuses good areas");
+        ensure!(
+            refused(book, call, MODEL, &[])? == 0,
+            "{call} refuses good areas"
+        );
+        let prototype = format!("uint8_t {call}(");
+        let parameters = book.header.split_once(&prototype).map(|parts| parts.1);
+        let first = parameters.ok_or(format!("the header has no {call}"))?;
+        ensure!(
+            first.starts_with("uint8_t model, ") == (takes == "yes")
+                && ["yes", "no"].contains(&takes),
+            "{call}: takes the model '{takes}'"
+        );
+        // Whatever else is wrong besides.
+        for model in [0, 2, 10, 12, 255] {
+            for &question in &asked {
+                let answer = refused(book, call, model, &[question])?;
+                let expected = if takes == "yes" { 1 } else { question };
+                ensure!(
+                    answer == expected,
+                    "{call}: model {model} and question {question} are answered by {answer}"
+                );
+            }
+        }
     }
     Ok(())
 }
 
-/// What a call answers with these questions answered no.
-fn refused(book: &Book, call: &str, no: &[u8]) -> Result<u8, String> {
+const MODEL: u8 = 1;
+
+/// What a call answers with this model, where it takes one, and these questions answered no.
+fn refused(book: &Book, call: &str, model: u8, no: &[u8]) -> Result<u8, String> {
     if call == "giruve_recover" {
         let mut held = worked(book)?;
+        held.model = model;
         for question in no.iter().rev() {
             held = changed_on(book, held, example(book, *question)?)?;
         }
         return Ok(book.recover(held)?.number);
     }
     let mut held = worked_reading(book)?;
+    held.model = model;
     spoil(&mut held, no);
     let is = |question| no.contains(&question);
     let areas = RunAreas {
@@ -159,19 +194,19 @@ fn refused(book: &Book, call: &str, no: &[u8]) -> Result<u8, String> {
     Ok(match call {
         "giruve_check_areas" => library::check_areas(sizes),
         "giruve_check_restart_areas" => library::check_restart_areas(64, restart.1.len()),
-        "giruve_check_image" if is(1) => library::check_image(&mut long),
-        "giruve_check_image" => library::check_image(areas.image),
-        "giruve_check_faults" if is(1) => library::check_faults(areas.image, &mut long),
-        "giruve_check_faults" => library::check_faults(areas.image, areas.faults),
-        "giruve_check_extent" if is(1) => library::check_extent(&mut held.extent[..7]),
-        "giruve_check_extent" => library::check_extent(&mut held.extent),
-        "giruve_run" => library::run(areas, held.limit, &mut answer),
+        "giruve_check_image" if is(1) => library::check_image(model, &mut long),
+        "giruve_check_image" => library::check_image(model, areas.image),
+        "giruve_check_faults" if is(1) => library::check_faults(model, areas.image, &mut long),
+        "giruve_check_faults" => library::check_faults(model, areas.image, areas.faults),
+        "giruve_check_extent" if is(1) => library::check_extent(model, &mut held.extent[..7]),
+        "giruve_check_extent" => library::check_extent(model, &mut held.extent),
+        "giruve_run" => library::run(model, areas, held.limit, &mut answer),
         "giruve_run_restart" => {
             let restart = RestartAreas {
                 program: &mut restart.0,
                 arguments: &mut restart.1,
             };
-            library::run_restart(areas, restart, &mut answer)
+            library::run_restart(model, areas, restart, &mut answer)
         }
         _ => book.read(held)?.number,
     })
@@ -202,7 +237,7 @@ fn example<'a>(book: &'a Book, question: u8) -> Result<&'a str, String> {
 
 fn examples(book: &Book) -> Checked {
     let table = book.page.table("Questions", &["number", "change"])?;
-    table.has(&["1", "4", "4", "5", "5", "6", "7", "8", "9"])?;
+    table.has(&["1", "1", "1", "4", "4", "5", "5", "5", "6", "7", "8", "9"])?;
     for [question, change] in table.each() {
         let answer = book.recover(changed(book, change)?)?.number;
         ensure!(
@@ -315,6 +350,7 @@ fn nine_of_eight_and_ten(book: &Book) -> Checked {
         ("field 14 is there", Interrupted(NoSeekArgument)),
         ("it begins 00 00", Interrupted(SeekNotZero)),
         ("its cylinder is 410 or less", Interrupted(SeekOffThePack)),
+        ("on model 11 it is 814 or less", Interrupted(SeekOffThePack)),
         ("its head is 18 or less", Interrupted(SeekOffThePack)),
         (
             "the interrupted CCW is one of the chain",
@@ -353,6 +389,7 @@ fn nine_of_nine_and_eleven(book: &Book) -> Checked {
         ("field 14 is there", Interrupted(NoSeekArgument)),
         ("it begins 00 00", Interrupted(SeekNotZero)),
         ("its cylinder is 410 or less", Interrupted(SeekOffThePack)),
+        ("on model 11 it is 814 or less", Interrupted(SeekOffThePack)),
         ("its head is 18 or less", Interrupted(SeekOffThePack)),
         (
             "the head reached, sense 6 bits 3 to 7, is 18 or less",

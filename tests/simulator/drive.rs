@@ -2,6 +2,7 @@
 
 use super::encode;
 use super::faults::{Fault, FaultList};
+use super::model::Model;
 use super::pack::{Pack, Record, TrackAddress, LAST_HEAD};
 use std::borrow::Cow;
 
@@ -258,7 +259,7 @@ pub enum Done<'d> {
 pub struct Drive<'a> {
     pack: &'a Pack<'a>,
     faults: &'a FaultList,
-    last_cylinder: u16,
+    model: Model,
     track: TrackAddress,
     /// Of the track, R0 first; none where it is not in the image.
     records: Option<&'a [Record<'a>]>,
@@ -274,7 +275,7 @@ pub struct Drive<'a> {
 }
 
 impl<'a> Drive<'a> {
-    pub fn new(pack: &'a Pack<'a>, faults: &'a FaultList, last_cylinder: u16) -> Drive<'a> {
+    pub fn new(pack: &'a Pack<'a>, faults: &'a FaultList, model: Model) -> Drive<'a> {
         let track = TrackAddress {
             cylinder: 0,
             head: 0,
@@ -282,7 +283,7 @@ impl<'a> Drive<'a> {
         Drive {
             pack,
             faults,
-            last_cylinder,
+            model,
             track,
             records: pack.track(track),
             place: None,
@@ -420,7 +421,7 @@ impl<'a> Drive<'a> {
     fn seek(&mut self, argument: &[u8]) -> Result<(), UnitCheck> {
         let (zeros, address) = argument.split_at(2);
         let track = TrackAddress::decode(address);
-        if !track.on_pack(self.last_cylinder) {
+        if !track.on_pack(self.model) {
             return Err(UnitCheck::Reject(RejectRule::SeekOffThePack));
         }
         if zeros != [0, 0] {
@@ -578,7 +579,7 @@ mod multitrack_tests;
 #[cfg(test)]
 mod tests {
     use super::*;
-    use crate::simulator::{check_faults, LAST_CYLINDER};
+    use crate::simulator::check_faults;
 
     const FIRST: TrackAddress = TrackAddress {
         cylinder: 0,
@@ -610,13 +611,17 @@ mod tests {
 
     /// Calls `test` with a new drive over the image.
     fn with_drive(faults: &[Fault], test: impl FnOnce(Drive)) {
+        with_drive_of(Model::One, faults, test);
+    }
+
+    fn with_drive_of(model: Model, faults: &[Fault], test: impl FnOnce(Drive)) {
         let image = image();
         let mut list = Vec::new();
         for &fault in faults {
             encode::put_fault(&mut list, fault);
         }
-        let (pack, faults) = check_faults(&image, &list, LAST_CYLINDER).unwrap();
-        test(Drive::new(&pack, &faults, LAST_CYLINDER));
+        let (pack, faults) = check_faults(model.number(), &image, &list).unwrap();
+        test(Drive::new(&pack, &faults, model));
     }
 
     fn search(drive: &mut Drive, number: u8) -> Result<bool, UnitCheck> {
@@ -778,6 +783,25 @@ mod tests {
                 let done = drive.execute(command, argument, chained_data);
                 assert_eq!(done.err(), Some(UnitCheck::Reject(rule)));
             });
+        }
+    }
+
+    #[test]
+    fn seeks_up_to_the_models_last_cylinder() {
+        let off = Some(UnitCheck::Reject(RejectRule::SeekOffThePack));
+        for (cylinder, one, eleven) in [
+            (410, None, None),
+            (411, off, None),
+            (814, off, None),
+            (815, off, off),
+        ] {
+            let [c0, c1] = u16::to_be_bytes(cylinder);
+            for (model, expected) in [(Model::One, one), (Model::Eleven, eleven)] {
+                with_drive_of(model, &[], |mut drive| {
+                    let argument = [0, 0, c0, c1, 0, 18];
+                    assert_eq!(control(&mut drive, SEEK, &argument), expected);
+                });
+            }
         }
     }
 

@@ -1,9 +1,14 @@
 //! Question 5: the extent, first and last track as cylinder 2, head 2.
 
-use super::pack::TrackAddress;
+use super::model::Model;
+use super::pack::{TrackAddress, LAST_HEAD};
 
 /// From the pack's first track to its last.
-pub const WHOLE_PACK: [u8; 8] = [0, 0, 0, 0, 1, 0x9A, 0, 18];
+pub fn whole_pack(model: Model) -> [u8; 8] {
+    let [c0, c1] = model.last_cylinder().to_be_bytes();
+    let [h0, h1] = LAST_HEAD.to_be_bytes();
+    [0, 0, 0, 0, c0, c1, h0, h1]
+}
 
 #[derive(Clone, Copy, Debug, PartialEq, Eq)]
 pub struct Extent {
@@ -20,9 +25,9 @@ rules! {
 
 impl Extent {
     /// Takes 8 bytes: question 1 has been asked.
-    pub fn decode(bytes: &[u8], last_cylinder: u16) -> Result<Extent, ExtentRule> {
+    pub fn decode(bytes: &[u8], model: Model) -> Result<Extent, ExtentRule> {
         let [first, last] = [0, 4].map(|at| TrackAddress::decode(&bytes[at..at + 4]));
-        if !first.on_pack(last_cylinder) || !last.on_pack(last_cylinder) {
+        if !first.on_pack(model) || !last.on_pack(model) {
             return Err(ExtentRule::OffThePack);
         }
         if first > last {
@@ -40,17 +45,20 @@ impl Extent {
 mod tests {
     use super::*;
     use crate::simulator::areas::Area;
-    use crate::simulator::{check_extent, sample, Refusal, LAST_CYLINDER};
+    use crate::simulator::{answer, check_extent, sample, Refusal};
 
     fn checked(first: (u16, u16), last: (u16, u16)) -> Result<(), Refusal> {
+        check_extent(1, &written(first, last)).map(|_| ())
+    }
+
+    fn written(first: (u16, u16), last: (u16, u16)) -> Vec<u8> {
         let words = [first.0, first.1, last.0, last.1];
-        let bytes: Vec<u8> = words.iter().flat_map(|word| word.to_be_bytes()).collect();
-        check_extent(&bytes, LAST_CYLINDER).map(|_| ())
+        words.iter().flat_map(|word| word.to_be_bytes()).collect()
     }
 
     #[test]
     fn sample_is_track_1_only() {
-        let extent = check_extent(&sample::EXTENT, LAST_CYLINDER).unwrap();
+        let extent = check_extent(1, &sample::EXTENT).unwrap();
         let only = TrackAddress {
             cylinder: 0,
             head: 1,
@@ -80,7 +88,7 @@ mod tests {
 
     #[test]
     fn tracks_from_first_to_last() {
-        let extent = check_extent(&[0, 1, 0, 17, 0, 3, 0, 0], LAST_CYLINDER).unwrap();
+        let extent = check_extent(1, &[0, 1, 0, 17, 0, 3, 0, 0]).unwrap();
         for (cylinder, head, inside) in [
             (1, 16, false),
             (1, 17, true),
@@ -101,14 +109,38 @@ mod tests {
     fn another_length_is_question_1() {
         for length in [0, 4, 7, 9, 16] {
             let refused = Err(Refusal::Areas(Area::Extent));
-            assert_eq!(check_extent(&vec![0; length], LAST_CYLINDER), refused);
+            assert_eq!(check_extent(1, &vec![0; length]), refused);
         }
     }
 
     #[test]
-    fn last_cylinder_is_the_callers() {
-        let whole = [0, 0, 0, 0, 0, 199, 0, 18];
-        assert!(check_extent(&whole, 199).is_ok());
-        assert!(check_extent(&whole, 198).is_err());
+    fn last_cylinder_is_the_models() {
+        for (cylinder, one, eleven) in [
+            (0, 0, 0),
+            (410, 0, 0),
+            (411, 5, 0),
+            (814, 5, 0),
+            (815, 5, 5),
+        ] {
+            let track = (cylinder, 18);
+            for extent in [written((0, 0), track), written(track, track)] {
+                assert_eq!(answer(&check_extent(1, &extent)), one);
+                assert_eq!(answer(&check_extent(11, &extent)), eleven);
+            }
+        }
+    }
+
+    #[test]
+    fn whole_packs() {
+        assert_eq!(whole_pack(Model::One), [0, 0, 0, 0, 0x01, 0x9A, 0, 18]);
+        assert_eq!(whole_pack(Model::Eleven), [0, 0, 0, 0, 0x03, 0x2E, 0, 18]);
+    }
+
+    #[test]
+    fn another_model_is_question_1() {
+        for model in [0, 2, 10, 12, 255] {
+            assert_eq!(check_extent(model, &sample::EXTENT), Err(Refusal::Model));
+            assert_eq!(check_extent(model, &[]), Err(Refusal::Model));
+        }
     }
 }

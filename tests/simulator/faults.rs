@@ -97,7 +97,7 @@ impl FaultList {
 mod tests {
     use super::*;
     use crate::simulator::areas::Area;
-    use crate::simulator::{answer, check_faults, encode, sample, Refusal, LAST_CYLINDER};
+    use crate::simulator::{answer, check_faults, encode, sample, Refusal};
 
     /// The sample's fault.
     const R1: Fault = Fault {
@@ -129,7 +129,7 @@ mod tests {
 
     /// Checked over the sample image.
     fn checked(list: &[u8]) -> Result<FaultList, Refusal> {
-        check_faults(&sample::IMAGE, list, LAST_CYLINDER).map(|(_, faults)| faults)
+        check_faults(1, &sample::IMAGE, list).map(|(_, faults)| faults)
     }
 
     fn refused(list: &[u8], rule: FaultRule) {
@@ -175,7 +175,7 @@ mod tests {
         image[52] = 0;
         for displacement in [0, 1] {
             let list = list(&[displaced(2, displacement)]);
-            let refusal = check_faults(&image, &list, LAST_CYLINDER).err();
+            let refusal = check_faults(1, &image, &list).err();
             assert_eq!(refusal, Some(Refusal::Faults(FaultRule::Displacement)));
         }
     }
@@ -232,12 +232,16 @@ mod tests {
     #[test]
     fn lowest_number_wins() {
         let bad_image = &sample::IMAGE[..20];
-        let number = |image: &[u8], list: &[u8]| answer(&check_faults(image, list, LAST_CYLINDER));
+        let number = |image: &[u8], list: &[u8]| answer(&check_faults(1, image, list));
         assert_eq!(number(bad_image, &[0xFF]), 2);
         assert_eq!(number(&sample::IMAGE, &[0xFF]), 3);
         assert_eq!(number(bad_image, &vec![0; 65_537]), 1);
         assert_eq!(number(&vec![0; 1_048_577], &[0xFF]), 1);
-        let past = check_faults(&sample::IMAGE, &vec![0x20; 65_537], LAST_CYLINDER);
+        for model in [0, 2, 10, 12, 255] {
+            let refused = check_faults(model, bad_image, &[0xFF]);
+            assert_eq!(refused.err(), Some(Refusal::Model));
+        }
+        let past = check_faults(1, &sample::IMAGE, &vec![0x20; 65_537]);
         assert_eq!(past.err(), Some(Refusal::Areas(Area::FaultList)));
     }
 }

@@ -1,10 +1,11 @@
 //! All that is lent to a call, held in one place: as it is lent, then as the call leaves it.
 
 use super::channel::Restart;
+use super::model::Model;
 use super::reading::{self, read, Reading};
 use super::recovery::{self, recover, Areas, Recovered};
 use super::run::{self, run_restarted_watched, run_watched, Outcome, Watch};
-use super::{Refusal, LAST_CYLINDER};
+use super::Refusal;
 
 /// The most commands that a chain's run may have.
 pub const MOST_COMMANDS: usize = 4_096;
@@ -22,9 +23,11 @@ pub const RECOVERY_ENTRY: usize = 1 + 2 + 2 + 1;
 /// What the areas of a restart hold where nothing is said of them.
 const KEPT: u8 = 0xA5;
 
-/// The areas and the limit of a run.
+/// The model, the areas and the limit of a run.
 #[derive(Clone, Debug, PartialEq, Eq)]
 pub struct HeldRun {
+    /// The number that the caller gives.
+    pub model: u8,
     pub chain: Vec<u8>,
     pub arguments: Vec<u8>,
     pub storage: Vec<u8>,
@@ -42,9 +45,11 @@ pub struct HeldRestart {
     pub arguments: Vec<u8>,
 }
 
-/// The areas of a recovery.
+/// The model and the areas of a recovery.
 #[derive(Clone, Debug, PartialEq, Eq)]
 pub struct HeldRecovery {
+    /// The number that the caller gives.
+    pub model: u8,
     pub chain: Vec<u8>,
     pub report: Vec<u8>,
     pub extent: Vec<u8>,
@@ -54,9 +59,11 @@ pub struct HeldRecovery {
     pub answer_length: usize,
 }
 
-/// The areas and the limit of a reading.
+/// The model, the areas and the limit of a reading.
 #[derive(Clone, Debug, PartialEq, Eq)]
 pub struct HeldReading {
+    /// The number that the caller gives.
+    pub model: u8,
     pub chain: Vec<u8>,
     pub arguments: Vec<u8>,
     pub storage: Vec<u8>,
@@ -70,12 +77,13 @@ pub struct HeldReading {
     pub answer_length: usize,
 }
 
-// By default: no bytes, but as many as there must be where one length alone is allowed; the highest
-// limit.
+// By default: model 1; no bytes, but as many as there must be where one length alone is allowed; the
+// highest limit.
 
 impl Default for HeldRun {
     fn default() -> HeldRun {
         HeldRun {
+            model: Model::One.number(),
             chain: Vec::new(),
             arguments: Vec::new(),
             storage: Vec::new(),
@@ -90,6 +98,7 @@ impl Default for HeldRun {
 impl Default for HeldRecovery {
     fn default() -> HeldRecovery {
         HeldRecovery {
+            model: Model::One.number(),
             chain: Vec::new(),
             report: Vec::new(),
             extent: Vec::new(),
@@ -116,19 +125,20 @@ impl HeldRun {
     /// The same, and `watch` is told of the run.
     pub fn watched(&mut self, watch: &mut impl Watch) -> Result<Outcome, Refusal> {
         let lent = run::Lent {
+            model: self.model,
             chain: &self.chain,
             arguments: &self.arguments,
             image: &self.image,
             faults: &self.faults,
         };
         match &self.restart {
-            None => run_watched(lent, &mut self.storage, self.limit, LAST_CYLINDER, watch),
+            None => run_watched(lent, &mut self.storage, self.limit, watch),
             Some(restart) => {
                 let restart = Restart {
                     program: &restart.program,
                     arguments: &restart.arguments,
                 };
-                run_restarted_watched(lent, restart, &mut self.storage, LAST_CYLINDER, watch)
+                run_restarted_watched(lent, restart, &mut self.storage, watch)
             }
         }
     }
@@ -138,6 +148,7 @@ impl HeldRecovery {
     /// What the simulator says of it; the areas are left as the recovery leaves them.
     pub fn simulated(&mut self) -> Result<Recovered, Refusal> {
         let lent = recovery::Lent {
+            model: self.model,
             chain: &self.chain,
             report: &self.report,
             extent: &self.extent,
@@ -147,7 +158,7 @@ impl HeldRecovery {
             program: &mut self.program,
             restart_arguments: &mut self.restart_arguments,
         };
-        recover(lent, areas, LAST_CYLINDER)
+        recover(lent, areas)
     }
 }
 
@@ -155,6 +166,7 @@ impl HeldReading {
     /// From what its runs are lent.
     pub fn of_run(run: HeldRun, extent: Vec<u8>) -> HeldReading {
         HeldReading {
+            model: run.model,
             chain: run.chain,
             arguments: run.arguments,
             storage: run.storage,
@@ -172,6 +184,7 @@ impl HeldReading {
     /// What its runs are lent.
     pub fn into_run(self) -> HeldRun {
         HeldRun {
+            model: self.model,
             chain: self.chain,
             arguments: self.arguments,
             storage: self.storage,
@@ -186,6 +199,7 @@ impl HeldReading {
     pub fn simulated(&mut self) -> Result<Reading, Refusal> {
         let lent = reading::Lent {
             run: run::Lent {
+                model: self.model,
                 chain: &self.chain,
                 arguments: &self.arguments,
                 image: &self.image,
@@ -198,6 +212,6 @@ impl HeldReading {
             program: &mut self.program,
             restart_arguments: &mut self.restart_arguments,
         };
-        read(lent, areas, self.limit, LAST_CYLINDER)
+        read(lent, areas, self.limit)
     }
 }

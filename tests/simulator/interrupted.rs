@@ -3,6 +3,7 @@
 
 use super::channel::{Ccw, Channel, Program, CCW_LENGTH, FLAG_CHAIN_COMMAND};
 use super::drive::SEEK;
+use super::model::Model;
 use super::pack::{TrackAddress, LAST_HEAD};
 use super::report::Report;
 use super::Refusal;
@@ -30,8 +31,8 @@ pub struct Interrupted {
 
 impl Interrupted {
     /// Asks all that 8, 10 and 10A have in common.
-    pub fn of(chain: &[u8], report: &Report, last_cylinder: u16) -> Result<Interrupted, Refusal> {
-        let track = sought(report, last_cylinder).map_err(Refusal::Interrupted)?;
+    pub fn of(chain: &[u8], report: &Report, model: Model) -> Result<Interrupted, Refusal> {
+        let track = sought(report, model).map_err(Refusal::Interrupted)?;
         let ccw = interrupted_ccw(chain, report).map_err(Refusal::Interrupted)?;
         Ok(Interrupted { ccw, track })
     }
@@ -64,7 +65,7 @@ pub fn track_reached(sought: TrackAddress, report: &Report) -> Result<TrackAddre
 }
 
 /// The track of the user's seek argument.
-pub fn sought(report: &Report, last_cylinder: u16) -> Result<TrackAddress, InterruptedRule> {
+pub fn sought(report: &Report, model: Model) -> Result<TrackAddress, InterruptedRule> {
     let argument = report.seek_argument;
     let argument = argument.ok_or(InterruptedRule::NoSeekArgument)?;
     let (zeros, address) = argument.split_at(2);
@@ -72,7 +73,7 @@ pub fn sought(report: &Report, last_cylinder: u16) -> Result<TrackAddress, Inter
         return Err(InterruptedRule::SeekNotZero);
     }
     let track = TrackAddress::decode(address);
-    if !track.on_pack(last_cylinder) {
+    if !track.on_pack(model) {
         return Err(InterruptedRule::SeekOffThePack);
     }
     Ok(track)
@@ -122,7 +123,6 @@ mod tests {
     use super::*;
     use crate::simulator::channel::ProgramCheck;
     use crate::simulator::encode::ccw;
-    use crate::simulator::LAST_CYLINDER;
 
     fn chain() -> Vec<u8> {
         [
@@ -144,7 +144,11 @@ mod tests {
     }
 
     fn interrupted(report: &Report) -> Result<Interrupted, InterruptedRule> {
-        Interrupted::of(&chain(), report, LAST_CYLINDER).map_err(|refusal| match refusal {
+        interrupted_on(Model::One, report)
+    }
+
+    fn interrupted_on(model: Model, report: &Report) -> Result<Interrupted, InterruptedRule> {
+        Interrupted::of(&chain(), report, model).map_err(|refusal| match refusal {
             Refusal::Interrupted(rule) => rule,
             _ => panic!("another question"),
         })
@@ -194,6 +198,27 @@ mod tests {
             assert_eq!(rule(argument), Some(InterruptedRule::SeekOffThePack));
         }
         assert_eq!(rule(Some([0; 6])), None);
+    }
+
+    #[test]
+    fn seek_argument_on_each_model() {
+        let off = Err(InterruptedRule::SeekOffThePack);
+        for (cylinder, one, eleven) in [
+            (410, Ok(410), Ok(410)),
+            (411, off, Ok(411)),
+            (814, off, Ok(814)),
+            (815, off, off),
+        ] {
+            let [c0, c1] = u16::to_be_bytes(cylinder);
+            let report = Report {
+                seek_argument: Some([0, 0, c0, c1, 0, 18]),
+                ..report(8)
+            };
+            for (model, expected) in [(Model::One, one), (Model::Eleven, eleven)] {
+                let found = interrupted_on(model, &report);
+                assert_eq!(found.map(|found| found.track.cylinder), expected);
+            }
+        }
     }
 
     #[test]
@@ -247,5 +272,7 @@ mod tests {
         assert_eq!(next_track(track(8, 17)), track(8, 18));
         assert_eq!(next_track(track(8, 18)), track(9, 0));
         assert_eq!(next_track(track(410, 18)), track(411, 0));
+        assert_eq!(next_cylinder(track(814, 3)), track(815, 0));
+        assert_eq!(next_track(track(814, 18)), track(815, 0));
     }
 }

@@ -15,6 +15,11 @@ impl TracksOf {
         records: 2,
         data_length: 48,
     };
+    /// An image as long as it may be has more cylinders of these than a pack of model 1.
+    pub const SHORT_RECORDS: TracksOf = TracksOf {
+        records: 2,
+        data_length: 10,
+    };
     pub const MANY_RECORDS: TracksOf = TracksOf {
         records: 255,
         data_length: 1,

@@ -1,4 +1,4 @@
-//! Document 01 with Tickets 1, 3 and 4 of document 02 written a second time, in plain Rust, to be
+//! Document 01 with Tickets 1, 3, 4 and 5 of document 02 written a second time, in plain Rust, to be
 //! compared with the proved library.
 //!
 //! Decoded values borrow from the lent bytes. Where a call is refused the rule that decided is
@@ -33,6 +33,7 @@ pub mod fields;
 pub mod held;
 pub mod interrupted;
 pub mod large;
+pub mod model;
 pub mod overflow;
 pub mod pack;
 pub mod reading;
@@ -49,17 +50,17 @@ use cut::CutRule;
 use extent::{Extent, ExtentRule};
 use faults::{FaultList, FaultRule};
 use interrupted::InterruptedRule;
+use model::Model;
 use overflow::OverflowRule;
 use pack::{ImageRule, Pack};
 use report::ReportRule;
 use table::Action;
 
-/// The last cylinder of the pack. What depends on it takes it as an argument, but for `held`.
-pub const LAST_CYLINDER: u16 = 410;
-
 /// A question answered no, and the rule of it that was broken.
 #[derive(Clone, Copy, Debug, PartialEq, Eq, PartialOrd, Ord)]
 pub enum Refusal {
+    /// Neither 1 nor 11.
+    Model,
     Areas(Area),
     Image(ImageRule),
     Faults(FaultRule),
@@ -83,7 +84,7 @@ impl Refusal {
     /// The question's number.
     pub fn number(self) -> u8 {
         match self {
-            Refusal::Areas(_) => 1,
+            Refusal::Model | Refusal::Areas(_) => 1,
             Refusal::Image(_) => 2,
             Refusal::Faults(_) => 3,
             Refusal::Report(_) => 4,
@@ -109,26 +110,29 @@ pub fn answer<T>(checked: &Result<T, Refusal>) -> u8 {
 }
 
 /// Questions 1 and 2 of an image.
-pub fn check_image(image: &[u8], last_cylinder: u16) -> Result<(), Refusal> {
+pub fn check_image(model: u8, image: &[u8]) -> Result<(), Refusal> {
+    let model = Model::check(model)?;
     Area::Image.check(image.len())?;
-    pack::check(image, last_cylinder).map_err(Refusal::Image)
+    pack::check(image, model).map_err(Refusal::Image)
 }
 
 /// Questions 1, 2 and 3 of an image and its fault list.
 pub fn check_faults<'a>(
+    model: u8,
     image: &'a [u8],
     faults: &[u8],
-    last_cylinder: u16,
 ) -> Result<(Pack<'a>, FaultList), Refusal> {
+    let model = Model::check(model)?;
     Area::Image.check(image.len())?;
     Area::FaultList.check(faults.len())?;
-    let pack = Pack::decode(image, last_cylinder).map_err(Refusal::Image)?;
+    let pack = Pack::decode(image, model).map_err(Refusal::Image)?;
     let faults = FaultList::decode(faults, &pack).map_err(Refusal::Faults)?;
     Ok((pack, faults))
 }
 
 /// Questions 1 and 5 of an extent.
-pub fn check_extent(extent: &[u8], last_cylinder: u16) -> Result<Extent, Refusal> {
+pub fn check_extent(model: u8, extent: &[u8]) -> Result<Extent, Refusal> {
+    let model = Model::check(model)?;
     Area::Extent.check(extent.len())?;
-    Extent::decode(extent, last_cylinder).map_err(Refusal::Extent)
+    Extent::decode(extent, model).map_err(Refusal::Extent)
 }

@@ -1,6 +1,7 @@
 //! Question 2: the pack image, tracks in ascending order, each a home address and its records.
 
 use super::fields::Fields;
+use super::model::Model;
 use std::ops::Range;
 
 pub const HOME_ADDRESS: u8 = 0x01;
@@ -27,8 +28,8 @@ impl TrackAddress {
         }
     }
 
-    pub fn on_pack(self, last_cylinder: u16) -> bool {
-        self.cylinder <= last_cylinder && self.head <= LAST_HEAD
+    pub fn on_pack(self, model: Model) -> bool {
+        self.cylinder <= model.last_cylinder() && self.head <= LAST_HEAD
     }
 }
 
@@ -91,7 +92,7 @@ rules! {
     }
 }
 
-fn decode_home_address(contents: &[u8], last_cylinder: u16) -> Result<TrackAddress, ImageRule> {
+fn decode_home_address(contents: &[u8], model: Model) -> Result<TrackAddress, ImageRule> {
     let &[flag, c0, c1, zero, head] = contents else {
         return Err(ImageRule::HomeAddressLength);
     };
@@ -102,7 +103,7 @@ fn decode_home_address(contents: &[u8], last_cylinder: u16) -> Result<TrackAddre
         return Err(ImageRule::ZeroByte);
     }
     let address = TrackAddress::decode(&[c0, c1, 0, head]);
-    if !address.on_pack(last_cylinder) {
+    if !address.on_pack(model) {
         return Err(ImageRule::OffThePack);
     }
     Ok(address)
@@ -157,7 +158,7 @@ impl OpenTrack {
 /// One pass over an image; `visit` gets every record that is well formed so far, in order.
 fn walk<'a>(
     image: &'a [u8],
-    last_cylinder: u16,
+    model: Model,
     mut visit: impl FnMut(Record<'a>),
 ) -> Result<(), ImageRule> {
     let mut open: Option<OpenTrack> = None;
@@ -165,7 +166,7 @@ fn walk<'a>(
         let field = field.map_err(|_| ImageRule::Torn)?;
         match field.tag {
             HOME_ADDRESS => {
-                let address = decode_home_address(field.contents, last_cylinder)?;
+                let address = decode_home_address(field.contents, model)?;
                 if let Some(track) = &open {
                     track.close()?;
                     if track.address >= address {
@@ -187,8 +188,8 @@ fn walk<'a>(
 }
 
 /// Whether the image is well formed, with nothing kept.
-pub fn check(image: &[u8], last_cylinder: u16) -> Result<(), ImageRule> {
-    walk(image, last_cylinder, |_| ())
+pub fn check(image: &[u8], model: Model) -> Result<(), ImageRule> {
+    walk(image, model, |_| ())
 }
 
 /// A well formed image taken apart.
@@ -201,9 +202,9 @@ pub struct Pack<'a> {
 }
 
 impl<'a> Pack<'a> {
-    pub fn decode(image: &'a [u8], last_cylinder: u16) -> Result<Pack<'a>, ImageRule> {
+    pub fn decode(image: &'a [u8], model: Model) -> Result<Pack<'a>, ImageRule> {
         let mut pack = Pack::default();
-        walk(image, last_cylinder, |record| pack.push(record))?;
+        walk(image, model, |record| pack.push(record))?;
         Ok(pack)
     }
 
@@ -246,7 +247,7 @@ impl<'a> Pack<'a> {
 mod tests {
     use super::*;
     use crate::simulator::areas::Area;
-    use crate::simulator::{check_image, encode, large, sample, Refusal, LAST_CYLINDER};
+    use crate::simulator::{check_image, encode, large, sample, Refusal};
 
     fn at(cylinder: u16, head: u16) -> TrackAddress {
         TrackAddress { cylinder, head }
@@ -284,7 +285,11 @@ mod tests {
         }
 
         fn checked(&self) -> Result<(), ImageRule> {
-            check(&self.0, LAST_CYLINDER)
+            self.checked_of(Model::One)
+        }
+
+        fn checked_of(&self, model: Model) -> Result<(), ImageRule> {
+            check(&self.0, model)
         }
     }
 
@@ -294,7 +299,7 @@ mod tests {
 
     #[test]
     fn sample_is_well_formed() {
-        let pack = Pack::decode(&sample::IMAGE, LAST_CYLINDER).unwrap();
+        let pack = Pack::decode(&sample::IMAGE, Model::One).unwrap();
         let tracks: Vec<_> = pack.tracks().collect();
         let [(address, [r0, r1, r2])] = tracks[..] else {
             panic!("one track of three records");
@@ -336,7 +341,7 @@ mod tests {
             written = written.record(track, number);
         }
         assert_eq!(written.checked(), Ok(()));
-        let pack = Pack::decode(&written.0, LAST_CYLINDER).unwrap();
+        let pack = Pack::decode(&written.0, Model::One).unwrap();
         assert_eq!(pack.track(track).unwrap().len(), 256);
         assert_eq!(pack.track(track).unwrap()[1].number(), 255);
     }
@@ -355,7 +360,7 @@ mod tests {
             .home(track)
             .sized(track, 0, 3, 0)
             .sized(track, 9, 2, 5);
-        let pack = Pack::decode(&written.0, LAST_CYLINDER).unwrap();
+        let pack = Pack::decode(&written.0, Model::One).unwrap();
         let record = pack.record(track, 9).unwrap();
         assert_eq!((record.key, record.data), (&[0xEE; 2][..], &[0xDD; 5][..]));
         let end = written.0.as_ptr_range().end;
@@ -365,7 +370,7 @@ mod tests {
 
     #[test]
     fn what_is_not_in_the_image() {
-        let pack = Pack::decode(&sample::IMAGE, LAST_CYLINDER).unwrap();
+        let pack = Pack::decode(&sample::IMAGE, Model::One).unwrap();
         assert!(pack.track(at(0, 0)).is_none());
         assert!(pack.track(at(1, 1)).is_none());
         assert!(pack.record(at(0, 1), 3).is_none());
@@ -379,7 +384,7 @@ mod tests {
                 8 => ImageRule::TrackWithoutR0,
                 _ => ImageRule::Torn,
             };
-            let checked = check(&sample::IMAGE[..length], LAST_CYLINDER);
+            let checked = check(&sample::IMAGE[..length], Model::One);
             assert_eq!(checked, Err(expected));
         }
     }
@@ -420,10 +425,31 @@ mod tests {
     }
 
     #[test]
-    fn last_cylinder_is_the_callers() {
-        let written = image().track(at(199, 0));
-        assert_eq!(check(&written.0, 199), Ok(()));
-        assert_eq!(check(&written.0, 198), Err(ImageRule::OffThePack));
+    fn last_cylinder_is_the_models() {
+        let off = Err(ImageRule::OffThePack);
+        for (cylinder, one, eleven) in [
+            (0, Ok(()), Ok(())),
+            (410, Ok(()), Ok(())),
+            (411, off, Ok(())),
+            (814, off, Ok(())),
+            (815, off, off),
+        ] {
+            for head in [0, 18] {
+                let written = image().track(at(cylinder, head));
+                assert_eq!(written.checked_of(Model::One), one);
+                assert_eq!(written.checked_of(Model::Eleven), eleven);
+            }
+            let written = image().track(at(cylinder, 19));
+            assert_eq!(written.checked_of(Model::Eleven), off);
+        }
+    }
+
+    #[test]
+    fn another_model_is_question_1() {
+        for model in [0, 2, 10, 12, 255] {
+            assert_eq!(check_image(model, &sample::IMAGE), Err(Refusal::Model));
+            assert_eq!(check_image(model, &[0]), Err(Refusal::Model));
+        }
     }
 
     #[test]
@@ -531,10 +557,10 @@ mod tests {
     #[test]
     fn past_the_limit_is_question_1() {
         let full = large::image_of(1_048_576, large::TracksOf::TWO_RECORDS);
-        assert_eq!(check_image(&full, LAST_CYLINDER), Ok(()));
+        assert_eq!(check_image(1, &full), Ok(()));
         let past = large::image_of(1_048_577, large::TracksOf::TWO_RECORDS);
-        assert_eq!(check(&past, LAST_CYLINDER), Ok(()));
+        assert_eq!(check(&past, Model::One), Ok(()));
         let refused = Err(Refusal::Areas(Area::Image));
-        assert_eq!(check_image(&past, LAST_CYLINDER), refused);
+        assert_eq!(check_image(1, &past), refused);
     }
 }

@@ -9,7 +9,7 @@ use super::report::Report;
 use super::run::{self, run_drive, Watch, RESTARTED_LIMIT};
 use super::{check_extent, check_faults, encode, Refusal};
 
-/// The areas that a reading only reads.
+/// The areas that a reading only reads, and the number of the pack's model.
 #[derive(Clone, Copy, Debug)]
 pub struct Lent<'a> {
     pub run: run::Lent<'a>,
@@ -89,13 +89,8 @@ pub struct Reading {
 }
 
 /// Questions 1, 2, 3 and 5, then the reading. A refusal leaves all areas.
-pub fn read(
-    lent: Lent,
-    areas: Areas,
-    limit: usize,
-    last_cylinder: u16,
-) -> Result<Reading, Refusal> {
-    read_watched(lent, areas, limit, last_cylinder, &mut ())
+pub fn read(lent: Lent, areas: Areas, limit: usize) -> Result<Reading, Refusal> {
+    read_watched(lent, areas, limit, &mut ())
 }
 
 /// The same, and `watch` is told of all its runs.
@@ -103,15 +98,14 @@ pub fn read_watched(
     lent: Lent,
     mut areas: Areas,
     limit: usize,
-    last_cylinder: u16,
     watch: &mut impl Watch,
 ) -> Result<Reading, Refusal> {
-    lent.run.check(areas.storage.len(), limit)?;
+    let model = lent.run.check(areas.storage.len(), limit)?;
     check_restart(areas.program.len(), areas.restart_arguments.len())?;
     Area::Extent.check(lent.extent.len())?;
-    let (pack, faults) = check_faults(lent.run.image, lent.run.faults, last_cylinder)?;
-    check_extent(lent.extent, last_cylinder)?;
-    let drive = || Drive::new(&pack, &faults, last_cylinder);
+    let (pack, faults) = check_faults(lent.run.model, lent.run.image, lent.run.faults)?;
+    check_extent(lent.run.model, lent.extent)?;
+    let drive = || Drive::new(&pack, &faults, model);
     let chain = lent.run.program(None);
     let mut outcome = run_drive(drive(), chain, areas.storage, limit, watch);
     let mut recoveries = Vec::new();
@@ -122,7 +116,7 @@ pub fn read_watched(
         if recoveries.len() == limit {
             break (End::Limit(LimitOf::Recoveries), outcome.csw);
         }
-        let recovered = match recovered(lent, &mut areas, &cut, last_cylinder) {
+        let recovered = match recovered(lent, &mut areas, &cut) {
             Ok(recovered) => recovered,
             Err(stop) => break (End::Stopped(stop), outcome.csw),
         };
@@ -147,13 +141,9 @@ pub fn read_watched(
     })
 }
 
-fn recovered(
-    lent: Lent,
-    areas: &mut Areas,
-    cut: &Report,
-    last_cylinder: u16,
-) -> Result<Recovered, Stop> {
+fn recovered(lent: Lent, areas: &mut Areas, cut: &Report) -> Result<Recovered, Stop> {
     let lent = recovery::Lent {
+        model: lent.run.model,
         chain: lent.run.chain,
         report: &encode::report(cut),
         extent: lent.extent,
@@ -163,7 +153,7 @@ fn recovered(
         program: areas.program,
         restart_arguments: areas.restart_arguments,
     };
-    let recovered = recover(lent, areas, last_cylinder).map_err(Stop::Refused)?;
+    let recovered = recover(lent, areas).map_err(Stop::Refused)?;
     match recovered.answer {
         Answer::NotBuilt(..) => Err(Stop::Action2),
         _ => Ok(recovered),

@@ -8,6 +8,7 @@ use super::extent::Extent;
 use super::interrupted::{
     next_command, next_cylinder, next_track, sought, track_reached, Interrupted,
 };
+use super::model::Model;
 use super::overflow::OverflowRead;
 use super::pack::TrackAddress;
 use super::report::Report;
@@ -21,9 +22,10 @@ pub const DATA_AREA_FORMAT: u8 = 0x53;
 /// Tries under which action 4 repeats.
 const MOST_TRIES: u8 = 10;
 
-/// The areas that a recovery only reads.
+/// The areas that a recovery only reads, and the number of the pack's model.
 #[derive(Clone, Copy, Debug)]
 pub struct Lent<'a> {
+    pub model: u8,
     pub chain: &'a [u8],
     pub report: &'a [u8],
     pub extent: &'a [u8],
@@ -99,12 +101,12 @@ pub struct Recovered {
 }
 
 /// Questions 1 and 4 to 9, then the action. A refusal leaves all areas.
-pub fn recover(lent: Lent, mut areas: Areas, last_cylinder: u16) -> Result<Recovered, Refusal> {
-    let without_overflow = recover_without_overflow(lent, areas.lent_on(), last_cylinder);
+pub fn recover(lent: Lent, mut areas: Areas) -> Result<Recovered, Refusal> {
+    let without_overflow = recover_without_overflow(lent, areas.lent_on());
     let Err(Refusal::Action(action @ (Action::Nine | Action::Eleven))) = without_overflow else {
         return without_overflow;
     };
-    let (row, case) = Case::of(lent, last_cylinder)?;
+    let (row, case) = Case::of(lent)?;
     let decision = match action {
         Action::Nine => case.action_9(areas.storage.len())?,
         _ => case.action_11(areas.storage.len())?,
@@ -118,11 +120,8 @@ pub fn recover(lent: Lent, mut areas: Areas, last_cylinder: u16) -> Result<Recov
 
 /// The same where actions 9 and 11 are not built: they are number 7, as 6, 6A and 7 are. "Every report
 /// whose row gives another action" gets this answer.
-pub fn recover_without_overflow(
-    lent: Lent,
-    areas: Areas,
-    last_cylinder: u16,
-) -> Result<Recovered, Refusal> {
+pub fn recover_without_overflow(lent: Lent, areas: Areas) -> Result<Recovered, Refusal> {
+    Model::check(lent.model)?;
     check_recovery(RecoverySizes {
         chain: lent.chain.len(),
         extent: lent.extent.len(),
@@ -130,7 +129,7 @@ pub fn recover_without_overflow(
         program: areas.program.len(),
         restart_arguments: areas.restart_arguments.len(),
     })?;
-    let (row, case) = Case::of(lent, last_cylinder)?;
+    let (row, case) = Case::of(lent)?;
     let mut correction = None;
     let decision = match table::TABLE[row].action {
         Action::One => Decision::Answer(Answer::Action1),
@@ -193,20 +192,21 @@ struct Case<'a> {
     chain: &'a [u8],
     report: Report,
     extent: Extent,
-    last_cylinder: u16,
+    model: Model,
 }
 
 impl<'a> Case<'a> {
     /// Questions 4, 5 and 6; the row's place in the table is told beside the case.
-    fn of(lent: Lent<'a>, last_cylinder: u16) -> Result<(usize, Case<'a>), Refusal> {
+    fn of(lent: Lent<'a>) -> Result<(usize, Case<'a>), Refusal> {
+        let model = Model::check(lent.model)?;
         let report = Report::decode(lent.report).map_err(Refusal::Report)?;
-        let extent = Extent::decode(lent.extent, last_cylinder).map_err(Refusal::Extent)?;
+        let extent = Extent::decode(lent.extent, model).map_err(Refusal::Extent)?;
         let row = table::row_of(&report.sense).ok_or(Refusal::NoRow)?;
         let case = Case {
             chain: lent.chain,
             report,
             extent,
-            last_cylinder,
+            model,
         };
         Ok((row, case))
     }
@@ -261,7 +261,7 @@ impl<'a> Case<'a> {
     }
 
     fn interrupted(&self) -> Result<Interrupted, Refusal> {
-        Interrupted::of(self.chain, &self.report, self.last_cylinder)
+        Interrupted::of(self.chain, &self.report, self.model)
     }
 
     fn from_home_address(&self, action: RestartAction, track: TrackAddress, to: &Ccw) -> Decision {
@@ -282,7 +282,7 @@ impl<'a> Case<'a> {
     }
 
     fn sought(&self) -> Result<TrackAddress, Refusal> {
-        sought(&self.report, self.last_cylinder).map_err(Refusal::Interrupted)
+        sought(&self.report, self.model).map_err(Refusal::Interrupted)
     }
 
     /// All that is number 9 comes before action 2.
@@ -308,7 +308,7 @@ impl<'a> Case<'a> {
         build: impl FnOnce() -> BuiltRestart,
     ) -> Decision {
         let not_built = |why| Decision::Answer(Answer::NotBuilt(action, why));
-        if !track.on_pack(self.last_cylinder) {
+        if !track.on_pack(self.model) {
             not_built(NotBuilt::OffThePack)
         } else if !self.extent.contains(track) {
             not_built(NotBuilt::OutsideTheExtent)

@@ -8,14 +8,16 @@ use super::channel::{
 use super::drive::{
     data_check_sense, Arriving, Done, Drive, Operand, Sense, UnitCheck, NO_OPERATION,
 };
+use super::model::Model;
 use super::pack::TrackAddress;
 use super::{check_faults, Refusal};
 
 pub const RESTARTED_LIMIT: usize = 8_192;
 
-/// The areas that a run only reads.
+/// The areas that a run only reads, and the number of the pack's model.
 #[derive(Clone, Copy, Debug)]
 pub struct Lent<'a> {
+    pub model: u8,
     pub chain: &'a [u8],
     pub arguments: &'a [u8],
     pub image: &'a [u8],
@@ -23,7 +25,9 @@ pub struct Lent<'a> {
 }
 
 impl<'a> Lent<'a> {
-    pub fn check(&self, storage: usize, limit: usize) -> Result<(), Refusal> {
+    /// Question 1.
+    pub fn check(&self, storage: usize, limit: usize) -> Result<Model, Refusal> {
+        let model = Model::check(self.model)?;
         check_run(RunSizes {
             chain: self.chain.len(),
             arguments: self.arguments.len(),
@@ -31,7 +35,8 @@ impl<'a> Lent<'a> {
             image: self.image.len(),
             faults: self.faults.len(),
             limit,
-        })
+        })?;
+        Ok(model)
     }
 
     pub fn program(&self, restart: Option<Restart<'a>>) -> Program<'a> {
@@ -126,13 +131,8 @@ pub trait Watch {
 impl Watch for () {}
 
 /// Questions 1, 2 and 3, then a run from the chain's first CCW. A refusal leaves storage.
-pub fn run(
-    lent: Lent,
-    storage: &mut [u8],
-    limit: usize,
-    last_cylinder: u16,
-) -> Result<Outcome, Refusal> {
-    run_watched(lent, storage, limit, last_cylinder, &mut ())
+pub fn run(lent: Lent, storage: &mut [u8], limit: usize) -> Result<Outcome, Refusal> {
+    run_watched(lent, storage, limit, &mut ())
 }
 
 /// The same, and `watch` is told of the run.
@@ -140,23 +140,17 @@ pub fn run_watched(
     lent: Lent,
     storage: &mut [u8],
     limit: usize,
-    last_cylinder: u16,
     watch: &mut impl Watch,
 ) -> Result<Outcome, Refusal> {
-    lent.check(storage.len(), limit)?;
-    let (pack, faults) = check_faults(lent.image, lent.faults, last_cylinder)?;
-    let drive = Drive::new(&pack, &faults, last_cylinder);
+    let model = lent.check(storage.len(), limit)?;
+    let (pack, faults) = check_faults(lent.model, lent.image, lent.faults)?;
+    let drive = Drive::new(&pack, &faults, model);
     Ok(run_drive(drive, lent.program(None), storage, limit, watch))
 }
 
 /// As `run`, from a restart program and with a restarted run's limit.
-pub fn run_restarted(
-    lent: Lent,
-    restart: Restart,
-    storage: &mut [u8],
-    last_cylinder: u16,
-) -> Result<Outcome, Refusal> {
-    run_restarted_watched(lent, restart, storage, last_cylinder, &mut ())
+pub fn run_restarted(lent: Lent, restart: Restart, storage: &mut [u8]) -> Result<Outcome, Refusal> {
+    run_restarted_watched(lent, restart, storage, &mut ())
 }
 
 /// The same, and `watch` is told of the run.
@@ -164,14 +158,13 @@ pub fn run_restarted_watched(
     lent: Lent,
     restart: Restart,
     storage: &mut [u8],
-    last_cylinder: u16,
     watch: &mut impl Watch,
 ) -> Result<Outcome, Refusal> {
     // The chain's own limit is not lent here: 1 is as good as any.
-    lent.check(storage.len(), 1)?;
+    let model = lent.check(storage.len(), 1)?;
     check_restart(restart.program.len(), restart.arguments.len())?;
-    let (pack, faults) = check_faults(lent.image, lent.faults, last_cylinder)?;
-    let drive = Drive::new(&pack, &faults, last_cylinder);
+    let (pack, faults) = check_faults(lent.model, lent.image, lent.faults)?;
+    let drive = Drive::new(&pack, &faults, model);
     let program = lent.program(Some(restart));
     Ok(run_drive(drive, program, storage, RESTARTED_LIMIT, watch))
 }
@@ -335,9 +328,10 @@ impl<W: Watch> Machine<'_, W> {
 mod tests {
     use super::*;
     use crate::simulator::large::cylinder_of;
-    use crate::simulator::{answer, encode, sample, LAST_CYLINDER};
+    use crate::simulator::{answer, encode, sample};
 
     const SAMPLE: Lent = Lent {
+        model: 1,
         chain: &sample::CHAIN,
         arguments: &sample::ARGUMENTS,
         image: &sample::IMAGE,
@@ -377,7 +371,7 @@ mod tests {
     #[test]
     fn sample_is_cut() {
         let mut storage = [0; 16];
-        let outcome = run(SAMPLE, &mut storage, 4_096, LAST_CYLINDER).unwrap();
+        let outcome = run(SAMPLE, &mut storage, 4_096).unwrap();
         assert_eq!(outcome.end, End::Cut);
         assert_eq!(outcome.csw, [0, 0, 0, 0x20, 0x0E, 0, 0, 0]);
         assert_eq!((outcome.cut, outcome.mask), (Some(0x18), None));
@@ -394,7 +388,7 @@ mod tests {
             arguments: &arguments,
         };
         let mut storage = [0; 8];
-        let outcome = run_restarted(SAMPLE, restart, &mut storage, LAST_CYLINDER).unwrap();
+        let outcome = run_restarted(SAMPLE, restart, &mut storage).unwrap();
         assert_eq!(outcome.end, End::Chain);
         assert_eq!(outcome.csw, [0, 0, 0, 0x28, 0x0C, 0, 0, 0]);
         assert_eq!((outcome.cut, outcome.sense), (None, [0; 24]));
@@ -406,7 +400,7 @@ mod tests {
     fn refused_and_nothing_changed() {
         let number = |lent: Lent, limit| {
             let mut storage = [0xEE; 16];
-            let number = answer(&run(lent, &mut storage, limit, LAST_CYLINDER));
+            let number = answer(&run(lent, &mut storage, limit));
             assert!(number == 0 || storage == [0xEE; 16]);
             number
         };
@@ -443,6 +437,16 @@ mod tests {
             ),
             1
         );
+        for model in [0, 2, 10, 12, 255] {
+            let image = &sample::IMAGE[..56];
+            assert_eq!(number(Lent { model, ..SAMPLE }, 1), 1);
+            let torn = Lent {
+                model,
+                image,
+                ..SAMPLE
+            };
+            assert_eq!(number(torn, 1), 1);
+        }
     }
 
     #[test]
@@ -450,8 +454,16 @@ mod tests {
         let (program, arguments) = restart_areas();
         for (program, arguments) in [(&program[..63], &arguments[..]), (&program, &[])] {
             let restart = Restart { program, arguments };
-            let refused = run_restarted(SAMPLE, restart, &mut [0; 8], LAST_CYLINDER);
+            let refused = run_restarted(SAMPLE, restart, &mut [0; 8]);
             assert_eq!(answer(&refused), 1);
+        }
+        let restart = Restart {
+            program: &program,
+            arguments: &arguments,
+        };
+        for (model, number) in [(0, 1), (1, 0), (2, 1), (11, 0), (12, 1)] {
+            let ran = run_restarted(Lent { model, ..SAMPLE }, restart, &mut [0; 8]);
+            assert_eq!(answer(&ran), number);
         }
     }
 
@@ -478,12 +490,13 @@ mod tests {
             .concat();
             let image = cylinder_of(|on| u8::from(on == head), 1);
             let lent = Lent {
+                model: 1,
                 chain: &chain,
                 arguments: &arguments,
                 image: &image,
                 faults: &[],
             };
-            let outcome = run(lent, &mut [], 4_096, LAST_CYLINDER).unwrap();
+            let outcome = run(lent, &mut [], 4_096).unwrap();
             let mut sense = [0; 24];
             for &(byte, value) in on {
                 sense[byte] = value;
@@ -504,22 +517,31 @@ mod tests {
             (4, End::Limit, [0, 0, 0, 0x20, 0x0C, 0, 0, 0]),
             (5, End::Chain, [0, 0, 0, 0x28, 0x0C, 0, 0, 0]),
         ] {
-            let outcome = run(no_faults, &mut [0; 8], limit, LAST_CYLINDER).unwrap();
+            let outcome = run(no_faults, &mut [0; 8], limit).unwrap();
             assert_eq!((outcome.end, outcome.csw), (end, csw));
         }
     }
 
     #[test]
-    fn last_cylinder_is_the_callers() {
+    fn last_cylinder_is_the_models() {
         let chain = encode::ccw(0x07, 0, 0, 6);
-        let lent = Lent {
-            chain: &chain,
-            arguments: &[0, 0, 0, 200, 0, 0],
-            ..SAMPLE
-        };
-        for (last_cylinder, unit) in [(200, 0x0C), (199, 0x0E)] {
-            let outcome = run(lent, &mut [], 1, last_cylinder).unwrap();
-            assert_eq!(outcome.csw[4], unit);
+        for (cylinder, one, eleven) in [
+            (410, 0x0C, 0x0C),
+            (411, 0x0E, 0x0C),
+            (814, 0x0E, 0x0C),
+            (815, 0x0E, 0x0E),
+        ] {
+            let [c0, c1] = u16::to_be_bytes(cylinder);
+            for (model, unit) in [(1, one), (11, eleven)] {
+                let lent = Lent {
+                    model,
+                    chain: &chain,
+                    arguments: &[0, 0, c0, c1, 0, 18],
+                    ..SAMPLE
+                };
+                let outcome = run(lent, &mut [], 1).unwrap();
+                assert_eq!(outcome.csw[4], unit);
+            }
         }
     }
 }

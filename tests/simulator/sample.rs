@@ -1,10 +1,11 @@
 //! Document 01's sample: a chain that reads two records, one track with R0, R1 and R2, one fault,
 //! an extent of that track only. And a sample over two heads.
 
-use super::encode::{ccw, put_fault, put_home_address, put_record};
+use super::encode::{ccw, put_fault, put_home_address, put_record, track_address};
 use super::faults::Fault;
 use super::held::{HeldReading, HeldRun};
 use super::large::track_at;
+use super::pack::TrackAddress;
 
 pub const CHAIN: [u8; 40] = [
     0x07, 0x00, 0x00, 0x00, 0x40, 0x00, 0x00, 0x06, // seek
@@ -45,7 +46,7 @@ pub fn run() -> HeldRun {
         image: IMAGE.to_vec(),
         faults: FAULTS.to_vec(),
         limit: 64,
-        restart: None,
+        ..HeldRun::default()
     }
 }
 
@@ -54,7 +55,25 @@ pub fn reading() -> HeldReading {
     HeldReading::of_run(run(), EXTENT.to_vec())
 }
 
-/// The same over heads 17 and 18, R1 on each of them faulted: the second read is an 86, and End of
+/// The same on another track.
+pub fn on_track(track: TrackAddress) -> HeldReading {
+    let address = track_address(track);
+    let (mut image, mut faults) = (Vec::new(), FAULTS.to_vec());
+    put_home_address(&mut image, track);
+    put_record(&mut image, track, 0, &[], &[0; 8]);
+    put_record(&mut image, track, 1, &[], b"\xC1\xC2\xC3\xC4");
+    put_record(&mut image, track, 2, &[], b"\xD1\xD2\xD3\xD4");
+    faults[3..7].copy_from_slice(&address);
+    HeldReading {
+        arguments: [&[0, 0], &address[..], &address, &[1]].concat(),
+        image,
+        faults,
+        extent: [address; 2].concat(),
+        ..reading()
+    }
+}
+
+/// The first sample over heads 17 and 18, R1 on each of them faulted: the second read is an 86, and End of
 /// Cylinder ends an 86 behind it.
 pub fn over_two_heads() -> HeldReading {
     let mut ccws = CHAIN[..0x20].to_vec();

@@ -5,6 +5,7 @@
 
 mod commands;
 mod comments;
+mod cylinders;
 mod declarations;
 mod figures;
 mod files;
@@ -35,7 +36,7 @@ use std::process::ExitCode;
 
 type Check = fn(&Repository) -> Vec<Place>;
 
-const CHECKS: [(&str, Check); 14] = [
+const CHECKS: [(&str, Check); 15] = [
     ("layers", layers::check),
     ("picture", picture::check),
     ("imports", imports::check),
@@ -50,6 +51,7 @@ const CHECKS: [(&str, Check); 14] = [
     ("commands", commands::check),
     ("figures", figures::check),
     ("storage", storage::check),
+    ("cylinders", cylinders::check),
 ];
 
 fn main() -> ExitCode {

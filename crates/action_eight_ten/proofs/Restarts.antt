@@ -14,6 +14,7 @@ use Rattle.base.proofs.Choice.{pick-true, pick-false}
 use Rattle.questions.specs.declared.Question.the-variants as Question
 use Rattle.address.specs.declared.Address.{Address}
 use Rattle.address.specs.declared.Extent.{Extent}
+use Rattle.address.specs.Model.{lastOf}
 use Rattle.channel.specs.declared.Ccw.{Ccw}
 use Rattle.channel.specs.declared.Csw.{Csw}
 use Rattle.channel.specs.declared.Location.{Location}
@@ -132,7 +133,7 @@ module _ (f : Follows) (chain : List ℕ) (t : Told) where
   module _ (track : Address) (e : t .user ≡ Track track) where
     -- what follows for this track and a CCW, by every report that tells t
     abbrev Follows-told : Ccw → Decision → Type 0
-    Follows-told c d = (rows : List Row) (x : Extent) (r : Report) (st p a : List ℕ) → Tells r t → Means x d st p a (f (givenOf rows chain x) r st track c)
+    Follows-told c d = (rows : List Row) (x : Extent) (r : Report) (st p a : List ℕ) → Tells (lastOf (x .model)) r t → Means x d st p a (f (givenOf rows chain x) r st track c)
 
     no-interrupted : Interrupts chain (t .csw) Past → Whole refusal
     unfolding Recovery.withTrack opt applied done bounded

@@ -1,7 +1,6 @@
 -- The tracks of actions 8, 10 and 10A, and the interrupted CCW.
 --   other-command                the commands that are no seek
 --   head-carried, head-up        the next track
---   reached-on                   the track of the head reached
 --   below-front .. stands-there  the CCW 8 below the CSW's address
 use Prim.Native.Nat.{ℕ, _+_, _-_, _<_, _≤_}
 use native.Mathlib.Omega.{arith}
@@ -10,14 +9,12 @@ use mathlib.Core.Bool.{true, false}
 use mathlib.Core.Option.{none, some}
 use mathlib.Core.List.{List, [], _∷_}
 use mathlib.Core.Logic.{inl, inr}
-use lib.Dec.{leb}
 use types.Run.{OneOf}
 use denote.Enum.Declared
 use borrow.Author.Tests.{eq-eqb, ne-eqb, le-leb, lt-leb}
 use Rattle.base.specs.Choice.{pick, opt}
-use Rattle.base.proofs.Choice.{pick-true, pick-false, and-left}
+use Rattle.base.proofs.Choice.{pick-true, pick-false}
 use Rattle.address.specs.declared.Address.{Address}
-use Rattle.address.specs.Order.{lastCylinder, onPack}
 use Rattle.channel.specs.declared.Ccw.{Ccw}
 use Rattle.channel.specs.declared.Csw.{Csw}
 use Rattle.channel.specs.declared.Slot.the-variants.{Holds, Past}
@@ -65,11 +62,6 @@ module _ (a : Address) where
   pub head-up : (a .head ≡ 18 → ⊥) → record { cylinder = a .cylinder; head = a .head + 1 } ≡ nextTrack a
   unfolding nextTrack
   head-up h = sym (pick-false _ _ (ne-eqb (a .head) 18 h))
-
--- another head of the same cylinder
-pub reached-on : (a : Address) (head : ℕ) → onPack lastCylinder a ≡ true → head ≤ 18 → onPack lastCylinder (record { cylinder = a .cylinder; head = head }) ≡ true
-unfolding onPack
-reached-on a head h n = rw (and-left (leb (a .cylinder) 410) (leb (a .head) 18) h) (le-leb _ _ n)
 
 -- ---- the interrupted CCW
 

@@ -16,10 +16,8 @@ use report::Told;
 use report::User;
 use restart::ReadCount;
 ghost use mathlib.Core.Path.{_≡_};
-ghost use mathlib.Core.Bool.{true};
 ghost use Prim.Native.Nat.{_<_, _≤_};
 ghost use lib.ListN.{length};
-ghost use Rattle.address.specs.Order.{lastCylinder, onPack};
 ghost use Rattle.restart.specs.declared.ReadCount.the-variants.{Omitted};
 ghost use Rattle.recovery.specs.Recovery as Recovery;
 ghost use Rattle.report.specs.Told.{ToldLow};
@@ -39,7 +37,7 @@ fn is_seek(k: Command) -> bool
 
 // The first track of the next cylinder.
 pub fn next_cylinder(a: Address) -> Address
-    requires { ⌜ onPack lastCylinder a ≡ true ⌝ }
+    requires { ⌜ a .cylinder < 65536 ⌝ }
     ensures { λ r. ⌜ r ≡ Recovery.nextCylinder a ⌝ }
 {
     Address {
@@ -50,7 +48,8 @@ pub fn next_cylinder(a: Address) -> Address
 
 // The next track: behind head 18 the next cylinder's first.
 pub fn next_track(a: Address) -> Address
-    requires { ⌜ onPack lastCylinder a ≡ true ⌝ }
+    requires { ⌜ a .cylinder < 65536 ⌝ }
+    requires { ⌜ a .head < 65536 ⌝ }
     ensures { λ r. ⌜ r ≡ Recovery.nextTrack a ⌝ }
 {
     if a.head == 18 {
@@ -142,7 +141,7 @@ fn seek_restart(chain: &[u8], csw: Csw, mask: FileMask, a: Address, c: Ccw) -> D
 fn reached_restart(csw: Csw, mask: FileMask, a: Address, head: usize) -> Decision
     requires { ⌜ 8 ≤ csw .address ⌝ }
     requires { ⌜ csw .address ≤ 2048 ⌝ }
-    requires { ⌜ onPack lastCylinder a ≡ true ⌝ }
+    requires { ⌜ a .cylinder < 65536 ⌝ }
     ensures { λ r. ⌜ ReachedRestarts csw mask a head r ⌝ }
     ensures { λ r. ⌜ GoesLow r ⌝ }
 {

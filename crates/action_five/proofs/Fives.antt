@@ -15,6 +15,7 @@ use Rattle.base.specs.Choice.{pick}
 use Rattle.base.proofs.Choice.{pick-true, pick-false, opt-none, opt-is}
 use Rattle.questions.specs.declared.Question.the-variants as Question
 use Rattle.address.specs.declared.Extent.{Extent}
+use Rattle.address.specs.Model.{lastOf}
 use Rattle.channel.specs.declared.Ccw.{Ccw}
 use Rattle.channel.specs.declared.Location.{Location}
 use Rattle.channel.specs.declared.Location.the-variants.{Chain}
@@ -74,7 +75,7 @@ module _ (chain : List ℕ) (size : ℕ) (t : Told) (c : Ccw) where
   abbrev from : ℕ
   from = t .sense .restart .0 - t .sense .error .0
 
-  module _ (rows : List Row) (x : Extent) (r : Report) (st p a : List ℕ) (h : Tells r t) (n : length st ≡ size) where
+  module _ (rows : List Row) (x : Extent) (r : Report) (st p a : List ℕ) (h : Tells (lastOf (x .model)) r t) (n : length st ≡ size) where
     walks : Recovery.retrace (givenOf rows chain x) r st c ≡ pick (readable size c) whole (checked [] (Chain (t .first)))
     unfolding Recovery.retrace
     walks = rw (n, h .sense .restart, h .first)
@@ -102,7 +103,7 @@ module _ (chain : List ℕ) (size : ℕ) (t : Told) (c : Ccw) where
 
   -- from the walk to the decision
   by-walk : (o : Decision) → readable size c ≡ true
-      → ((rows : List Row) (x : Extent) (r : Report) (st p a : List ℕ) → Tells r t → length st ≡ size
+      → ((rows : List Row) (x : Extent) (r : Report) (st p a : List ℕ) → Tells (lastOf (x .model)) r t → length st ≡ size
       → done (bounded x o) st p a ≡ applied (Recovery.walkedTo (givenOf rows chain x) r st whole) st p a)
       → DecidesRetraced chain size t c o
   by-walk o g k = λ rows x r st p a h n.
@@ -141,7 +142,7 @@ module _ (chain : List ℕ) (size : ℕ) (t : Told) where
       ∙ sym (ap (λ q. applied q st p a) (pick-false _ _ (ne-eqb (getD (r .sense) 7 0) 0x53 (λ z. f (sym (h .sense .format) ∙ z)))))
 
   module _ (f : t .sense .format ≡ 0x53) where
-    format-is : (r : Report) → Tells r t → eqb (getD (r .sense) 7 0) 0x53 ≡ true
+    format-is : {last : ℕ} (r : Report) → Tells last r t → eqb (getD (r .sense) 7 0) 0x53 ≡ true
     format-is r h = eq-eqb (getD (r .sense) 7 0) 0x53 (h .sense .format ∙ f)
 
     pub no-ccw : none ≡ fetchIn chain (t .first) → Decides Recovery.actionFive chain size t (Answers (Refused Question.Agreement))
@@ -152,7 +153,7 @@ module _ (chain : List ℕ) (size : ℕ) (t : Told) where
 
     module _ (c : Ccw) (e : some c ≡ fetchIn chain (t .first)) where
       by-ccw : (o : Decision)
-          → ((rows : List Row) (x : Extent) (r : Report) (st p a : List ℕ) → Tells r t → length st ≡ size
+          → ((rows : List Row) (x : Extent) (r : Report) (st p a : List ℕ) → Tells (lastOf (x .model)) r t → length st ≡ size
           → done (bounded x o) st p a
           ≡ applied (pick (readsData (commandOf (c .command)) && Recovery.sensible (r .sense)) (Recovery.walkedTo (givenOf rows chain x) r st (Recovery.retrace (givenOf rows chain x) r st c)) (Recovery.refused Question.Agreement)) st p a)
           → Decides Recovery.actionFive chain size t o

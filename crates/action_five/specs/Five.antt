@@ -9,6 +9,7 @@ use Rattle.base.specs.Choice.{pick}
 use Rattle.base.specs.Bits.{bitOn}
 use Rattle.questions.specs.declared.Question.the-variants as Question
 use Rattle.address.specs.declared.Extent.{Extent}
+use Rattle.address.specs.Model.{lastOf}
 use Rattle.channel.specs.declared.Ccw.{Ccw}
 use Rattle.channel.specs.declared.Location.{Location}
 use Rattle.channel.specs.Ccw.{next, resolve}
@@ -47,7 +48,7 @@ Known sense stayed ps = (length ps ≤ Recovery.restartDisplacement sense) × (s
 -- what f makes of every report that tells this, and of every walk in which the three bytes stayed so
 abbrev pub DecidesAt : (List (Option ℕ) → Given → Report → List ℕ → Recovery.Recovery) → (chain : List ℕ) → Told → ThreeStayed → Decision → Type 0
 DecidesAt f chain t stayed d =
-    (rows : List Row) (x : Extent) (r : Report) (st p a : List ℕ) (ps : List (Option ℕ)) → Tells r t → Known (r .sense) stayed ps
+    (rows : List Row) (x : Extent) (r : Report) (st p a : List ℕ) (ps : List (Option ℕ)) → Tells (lastOf (x .model)) r t → Known (r .sense) stayed ps
     → Means x d st p a (f ps (givenOf rows chain x) r st)
 
 -- the restart that goes on with the CCW c at an address of the chain

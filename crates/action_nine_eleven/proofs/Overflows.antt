@@ -17,6 +17,7 @@ use Rattle.base.proofs.Choice.{pick-true, pick-false, and-left, and-right, opt-
 use Rattle.questions.specs.declared.Question.the-variants as Question
 use Rattle.address.specs.declared.Address.{Address}
 use Rattle.address.specs.declared.Extent.{Extent}
+use Rattle.address.specs.Model.{lastOf}
 use Rattle.channel.specs.declared.Ccw.{Ccw}
 use Rattle.channel.specs.declared.Csw.{Csw}
 use Rattle.channel.specs.declared.Location.{Location}
@@ -146,14 +147,14 @@ module _ (chain : List ℕ) (size : ℕ) (t : Told) (track : Address) (kind : Ki
         unfolding Recovery.overflowAt Recovery.overflowRead Recovery.retrace Recovery.overflowWalk pick opt applied done bounded
         unreadable h = λ k rows x r st p a i told n. rw (told .first, ← e, g, told .sense .byte3, eq-eqb (t .sense .byte3) 0x06 f, n, h)
 
-        read-is : (rows : List Row) (x : Extent) (r : Report) (st : List ℕ) → Tells r t → some c ≡ Recovery.overflowRead (givenOf rows chain x) r st
+        read-is : (rows : List Row) (x : Extent) (r : Report) (st : List ℕ) → Tells (lastOf (x .model)) r t → some c ≡ Recovery.overflowRead (givenOf rows chain x) r st
         unfolding Recovery.overflowRead pick opt
         read-is rows x r st told = rw (told .first, ← e, g, told .sense .byte3, eq-eqb (t .sense .byte3) 0x06 f)
 
         abbrev whole : Walk
         whole = walk (onlyChain chain) size (t .sense .restart .0) (Chain (t .first)) c (c .count) (c .address)
 
-        walk-is : readable size c ≡ true → (rows : List Row) (x : Extent) (r : Report) (st : List ℕ) → Tells r t → length st ≡ size
+        walk-is : readable size c ≡ true → (rows : List Row) (x : Extent) (r : Report) (st : List ℕ) → Tells (lastOf (x .model)) r t → length st ≡ size
             → Recovery.retrace (givenOf rows chain x) r st c ≡ whole
         unfolding Recovery.retrace
         walk-is h rows x r st told n = rw (n, told .first, told .sense .restart) (pick-true _ _ h)

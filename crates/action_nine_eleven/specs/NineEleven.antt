@@ -5,6 +5,7 @@ use mathlib.Core.List.{List, []}
 use lib.ListN.{length}
 use Rattle.address.specs.declared.Address.{Address}
 use Rattle.address.specs.declared.Extent.{Extent}
+use Rattle.address.specs.Model.{lastOf}
 use Rattle.channel.specs.declared.Ccw.{Ccw}
 use Rattle.channel.specs.declared.Csw.{Csw}
 use Rattle.channel.specs.declared.Location.{Location}
@@ -50,5 +51,5 @@ WalkedTo chain csw mask track kind e d =
 -- from the read's first CCW on, with storage of this length
 abbrev pub Overflows : (chain : List ℕ) → ℕ → Told → Address → Kind → Decision → Type 0
 Overflows chain size t track kind d =
-    (k : Recovery.Kind) (rows : List Row) (x : Extent) (r : Report) (st p a : List ℕ) → kindOf k ≡ kind → Tells r t → length st ≡ size
+    (k : Recovery.Kind) (rows : List Row) (x : Extent) (r : Report) (st p a : List ℕ) → kindOf k ≡ kind → Tells (lastOf (x .model)) r t → length st ≡ size
     → Means x d st p a (Recovery.overflowAt (givenOf rows chain x) r st k track)

@@ -1,1 +1,2 @@
 pub mod ExtentAnswer
+pub mod Models

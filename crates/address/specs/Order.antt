@@ -4,10 +4,6 @@ use mathlib.Core.Bool.{Bool, _&&_, _||_}
 use lib.Dec.{eqb, ltb, leb}
 use Rattle.address.specs.declared.Address.{Address}
 
--- the pack's last cylinder: "cylinder 0 to 410"
-abbrev pub lastCylinder : ℕ
-lastCylinder = 410
-
 -- one track: the same cylinder and the same head
 unfoldable pub same : Address → Address → Bool
 same a b = eqb (a .cylinder) (b .cylinder) && eqb (a .head) (b .head)
@@ -16,6 +12,6 @@ same a b = eqb (a .cylinder) (b .cylinder) && eqb (a .head) (b .head)
 unfoldable pub before : Address → Address → Bool
 before a b = ltb (a .cylinder) (b .cylinder) || (eqb (a .cylinder) (b .cylinder) && ltb (a .head) (b .head))
 
--- "cylinder 0 to 410, head 0 to 18", with the last cylinder as a parameter
+-- a track of a pack with this last cylinder: "head 0 to 18"
 unfoldable pub onPack : ℕ → Address → Bool
 onPack last a = leb (a .cylinder) last && leb (a .head) 18

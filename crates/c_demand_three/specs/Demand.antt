@@ -1,10 +1,12 @@
 -- DEMAND 3 of the call for C: what `giruve_reading` returns and leaves, by its contract `ReadingHandsOut`, keeps demand 3
--- (Rattle.demand_three.specs.Demand), for every reading that document 01 lets begin and every answer area of 11 bytes.
+-- (Rattle.demand_three.specs.Demand), for every reading that document 01 lets begin, the number of its model and every answer area of 11 bytes.
 use Prim.Native.Nat.{ℕ}
 use mathlib.Core.Path.{_≡_}
+use mathlib.Core.Option.{some}
 use mathlib.Core.List.{List, [], _∷_, _++_}
 use lib.ListN.{length}
 use Rattle.base.specs.Bytes.{two}
+use Rattle.address.specs.Model.{modelOf}
 use Rattle.channel.specs.Csw.{cswBytes}
 use Rattle.drive.specs.Step.{End}
 use Rattle.demand_three.specs.Demand.{Lending, Begins, Provided, endOf, faultedAreas, LikeFaultless}
@@ -34,7 +36,8 @@ pub record HandedLikeFaultless (g : Lending) (e : End) (b : Beside) (h : Reading
 -- DEMAND 3 of every call of `giruve_reading`: where the reading may begin and the provisos hold, it hands out what demand 3 asks for.
 abbrev pub GiruveReadingKeepsDemandThree : Type 0
 GiruveReadingKeepsDemandThree =
-    (g : Lending) (e : End) → Begins g → Provided g e → (b : Beside) → Lends g b → (answer : List ℕ) → length answer ≡ 11 → (h : ReadingHanded)
-    → ReadingHandsOut (g .chain) (g .arguments) (g .storage) (g .image) (g .faultList) (g .extent) (g .limit) (b .program) (b .restartArguments) (b .list)
+    (g : Lending) (e : End) → Begins g → Provided g e → (b : Beside) → Lends g b → (answer : List ℕ) → length answer ≡ 11
+    → (model : ℕ) → modelOf model ≡ some (g .model) → (h : ReadingHanded)
+    → ReadingHandsOut model (g .chain) (g .arguments) (g .storage) (g .image) (g .faultList) (g .extent) (g .limit) (b .program) (b .restartArguments) (b .list)
     answer h
     → HandedLikeFaultless g e b h

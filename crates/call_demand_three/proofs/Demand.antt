@@ -26,8 +26,8 @@ length-made like = sym (length-map (like .made) recovered) ∙ ap length (like .
 
 module _ (g : Lending) (b : Beside) (begins : Begins g) (lends : Lends g b) where
   -- no question is answered with no
-  begun : readingCall (g .chain) (g .arguments) (g .storage) (g .image) (g .faultList) (g .extent) (g .limit) (b .program) (b .restartArguments) (b .list)
-      ≡ concluded (wholeReading (g .faults) (settingOf g) rows (extentOf (g .extent)) (g .limit) (g .storage)) (b .program) (b .restartArguments) (b .list)
+  begun : readingCall (g .model) (g .chain) (g .arguments) (g .storage) (g .image) (g .faultList) (g .extent) (g .limit) (b .program) (b .restartArguments) (b .list)
+      ≡ concluded (wholeReading (g .faults) (settingOf g) rows (extentOf (g .model) (g .extent)) (g .limit) (g .storage)) (b .program) (b .restartArguments) (b .list)
   unfolding readingCall readingAreas pick opt settingOf
   begun =
       let full : eqb (length (g .extent)) 8 ≡ true = eq-eqb _ _ (begins .extent .0) in

@@ -53,12 +53,12 @@ module _ (p a l : List ℕ) where
 
 pub call-stopped-by-two-or-nine : CallStoppedByTwoOrNine
 unfolding readingCall Allowed
-call-stopped-by-two-or-nine chain arguments st image faults extent n p a l = allowed
+call-stopped-by-two-or-nine model chain arguments st image faults extent n p a l = allowed
   where
     no : (q : Question) → Allowed (leaving (Refused q) st p a l)
     no q = refused-allowed p a l q st
 
-    allowed : Allowed (readingCall chain arguments st image faults extent n p a l)
+    allowed : Allowed (readingCall model chain arguments st image faults extent n p a l)
     allowed =
         both Allowed _ (both Allowed _ (either Allowed _ (no _)
         (λ fs. both Allowed _ (both Allowed _ (concluded-allowed p a l _ (stopped-by-two-or-nine fs _ _ n st)) (no _)) (no _)))

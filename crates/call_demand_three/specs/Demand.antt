@@ -45,5 +45,5 @@ pub record Keeps (g : Lending) (e : End) (b : Beside) (c : Conclusion) : Type 0 
 abbrev pub CallKeepsDemandThree : Type 0
 CallKeepsDemandThree =
     (g : Lending) (e : End) → Begins g → Provided g e → (b : Beside) → Lends g b → (c : Conclusion)
-    → Answers (g .chain) (g .arguments) (g .storage) (g .image) (g .faultList) (g .extent) (g .limit) (b .program) (b .restartArguments) (b .list) c
+    → Answers (g .model) (g .chain) (g .arguments) (g .storage) (g .image) (g .faultList) (g .extent) (g .limit) (b .program) (b .restartArguments) (b .list) c
     → Keeps g e b c

@@ -5,6 +5,7 @@ use mathlib.Core.Logic.{_⊎_}
 use mathlib.Core.List.{List}
 use Rattle.questions.specs.declared.Question.the-variants.{Agreement}
 use Rattle.questions.specs.Number.{numberOf}
+use Rattle.address.specs.declared.Model.{Model}
 use Rattle.reading_runs.specs.declared.How.the-variants.{Stop}
 use Rattle.reading_runs.specs.declared.Over as Code
 use Rattle.reading_runs.specs.declared.Outcome.the-variants.{Over}
@@ -14,5 +15,5 @@ use Rattle.whole_reading.specs.Reading.{readingCall}
 -- it is lent.
 abbrev pub CallStoppedByTwoOrNine : Type 0
 CallStoppedByTwoOrNine =
-    (chain arguments st image faults extent : List ℕ) (n : ℕ) (p a l : List ℕ) (o : Code.Over) (m : ℕ)
-    → readingCall chain arguments st image faults extent n p a l .answer ≡ Over o → o .how ≡ Stop m → (m ≡ 2) ⊎ (m ≡ numberOf Agreement)
+    (model : Model) (chain arguments st image faults extent : List ℕ) (n : ℕ) (p a l : List ℕ) (o : Code.Over) (m : ℕ)
+    → readingCall model chain arguments st image faults extent n p a l .answer ≡ Over o → o .how ≡ Stop m → (m ≡ 2) ⊎ (m ≡ numberOf Agreement)

@@ -2,7 +2,6 @@
 use Prim.Native.Nat.{ℕ, _+_, _<_}
 use mathlib.Core.Path.{_≡_}
 use mathlib.Core.List.{List, [], _∷_}
-use Rattle.address.specs.Order.{lastCylinder}
 use Rattle.pack.specs.Pack.{packOf}
 use Rattle.abstract_machine.specs.Machine.{goes, ends, cuts}
 use Rattle.channel.specs.declared.Ccw.{Ccw}
@@ -114,6 +113,6 @@ KeptBehind x r = (image : List ℕ) → ExaminedStands image x → Kept image r
 abbrev pub lentOf : (chain arguments program restartArguments : List ℕ) → Lent
 lentOf chain arguments program restartArguments = record { chain = chain; arguments = arguments; program = program; restartArguments = restartArguments }
 
--- what a run is told, in terms of the bytes that are lent to it
-abbrev pub settingWith : Lent → List ℕ → Step.Setting
-settingWith p image = record { last = lastCylinder; pack = packOf image; lent = p }
+-- what a run is told, in terms of the pack's last cylinder and of the bytes that are lent to it
+abbrev pub settingWith : ℕ → Lent → List ℕ → Step.Setting
+settingWith last p image = record { last = last; pack = packOf image; lent = p }

@@ -23,7 +23,7 @@ use Rattle.base.specs.Bytes.{be16At}
 use Rattle.base.proofs.Choice.{pick-true, pick-false, and-left, and-second, never}
 use Rattle.base.proofs.Bytes.{length-part}
 use Rattle.address.specs.declared.Address.{Address}
-use Rattle.address.specs.Order.{lastCylinder, onPack}
+use Rattle.address.specs.Order.{onPack}
 use Rattle.pack.specs.Pack.{packOf}
 use Rattle.channel.specs.declared.Ccw.{Ccw}
 use Rattle.channel.specs.declared.Location.{Location}
@@ -44,7 +44,7 @@ use Rattle.position.specs.declared.Examined.the-variants.{Equal, Unequal, Passe
 use Rattle.position.specs.Standing.{driveOf, searchPlan, Examines}
 use Rattle.command.specs.declared.Answer.{Answer}
 use Rattle.command.specs.Answer.{Answers}
-use Rattle.control.specs.Control.{Plans, ArgumentWord, Seeks, Performs, moveless, argues}
+use Rattle.control.specs.Control.{Plans, ArgumentWord, Seeks, Performs, PerformsAlways, moveless, argues}
 
 -- ---- tests
 
@@ -135,26 +135,26 @@ module _ (l : Location) (c : Ccw) (d : Abstract.Drive) (r : Answer) where
       pick-false _ _ h
       ∙ ap Step.answer (ap (λ q. Step.onward l q c (c .count) (Abstract.atIndex (d .at) (d .mask)) st) (sym g) ∙ ap (λ q. Step.onward l to c (c .count) q st) (sym f) ∙ e st)
 
-  module _ (n : ℕ) (a : Address) where
-    pub seek-first : (n ≡ 0 → ⊥) → Answers (Step.refusal Step.rejected l c d) r → Seeks n a l c d r
+  module _ (last n : ℕ) (a : Address) where
+    pub seek-first : (n ≡ 0 → ⊥) → Answers (Step.refusal Step.rejected l c d) r → Seeks last n a l c d r
     unfolding Step.planSeek Step.refuse
     seek-first h e = λ g z y st. pick-false _ _ (and-first _ (ne-eqb _ _ (λ q. h (sym z ∙ q)))) ∙ ap Step.answer (e st)
 
-    pub seek-off : onPack lastCylinder a ≡ false → Answers (Step.refusal Step.rejected l c d) r → Seeks n a l c d r
+    pub seek-off : onPack last a ≡ false → Answers (Step.refusal Step.rejected l c d) r → Seeks last n a l c d r
     unfolding Step.planSeek Step.refuse
-    seek-off h e = λ g z y st. pick-false _ _ (and-second (eqb (be16At g 0) 0) (ap (λ q. onPack lastCylinder q) y ∙ h)) ∙ ap Step.answer (e st)
+    seek-off h e = λ g z y st. pick-false _ _ (and-second (eqb (be16At g 0) 0) (ap (λ q. onPack last q) y ∙ h)) ∙ ap Step.answer (e st)
 
-    module _ (zero : n ≡ 0) (on : onPack lastCylinder a ≡ true) where
-      pub seek-protected : Step.protects (d .mask) ≡ true → Answers (Step.refusal Step.protected l c d) r → Seeks n a l c d r
+    module _ (zero : n ≡ 0) (on : onPack last a ≡ true) where
+      pub seek-protected : Step.protects (d .mask) ≡ true → Answers (Step.refusal Step.protected l c d) r → Seeks last n a l c d r
       unfolding Step.planSeek Step.refuse
       seek-protected h e = λ g z y st.
-          pick-true _ _ (and-both (eq-eqb _ _ (z ∙ zero)) (ap (λ q. onPack lastCylinder q) y ∙ on)) ∙ pick-true _ _ h ∙ ap Step.answer (e st)
+          pick-true _ _ (and-both (eq-eqb _ _ (z ∙ zero)) (ap (λ q. onPack last q) y ∙ on)) ∙ pick-true _ _ h ∙ ap Step.answer (e st)
 
       pub seek-done : {to : Location} {x : Abstract.Drive} → Step.protects (d .mask) ≡ false → to ≡ next l → x ≡ Abstract.atIndex a (d .mask)
-          → Answers (Step.onward l to c 0 x) r → Seeks n a l c d r
+          → Answers (Step.onward l to c 0 x) r → Seeks last n a l c d r
       unfolding Step.planSeek
       seek-done h f k e = λ g z y st.
-          pick-true _ _ (and-both (eq-eqb _ _ (z ∙ zero)) (ap (λ q. onPack lastCylinder q) y ∙ on))
+          pick-true _ _ (and-both (eq-eqb _ _ (z ∙ zero)) (ap (λ q. onPack last q) y ∙ on))
           ∙ pick-false _ _ h
           ∙ done-with _ _ _ _ f (k ∙ ap (λ q. Abstract.atIndex q (d .mask)) (sym y)) e st
 
@@ -188,50 +188,51 @@ module _ (l : Location) (c : Ccw) (d : Abstract.Drive) (r : Answer) where
   -- ---- with arguments
 
   module _ (s t image : List ℕ) where
-    pub seek-uncounted : (eqb (c .count) 6 && not (chainsData c)) ≡ false → Answers (Step.refusal Step.rejected l c d) r → Performs s t image l c Seek d r
+    pub seek-uncounted : (last : ℕ) → (eqb (c .count) 6 && not (chainsData c)) ≡ false → Answers (Step.refusal Step.rejected l c d) r
+        → Performs last s t image l c Seek d r
     unfolding Step.perform
-    seek-uncounted h e = λ p st f g. uncounted 6 (λ q. Step.planSeek l c d q lastCylinder (argument p l c)) h e st
+    seek-uncounted last h e = λ p st f g. uncounted 6 (λ q. Step.planSeek l c d q last (argument p l c)) h e st
 
-    pub mask-uncounted : (eqb (c .count) 1 && not (chainsData c)) ≡ false → Answers (Step.refusal Step.rejected l c d) r → Performs s t image l c SetMask d r
+    pub mask-uncounted : (eqb (c .count) 1 && not (chainsData c)) ≡ false → Answers (Step.refusal Step.rejected l c d) r → PerformsAlways s t image l c SetMask d r
     unfolding Step.perform
-    mask-uncounted h e = λ p st f g. uncounted 1 (λ q. Step.planMask l c d q (getD (argument p l c) 0 0)) h e st
+    mask-uncounted h e = λ last p st f g. uncounted 1 (λ q. Step.planMask l c d q (getD (argument p l c) 0 0)) h e st
 
-    pub sector-uncounted : (eqb (c .count) 1 && not (chainsData c)) ≡ false → Answers (Step.refusal Step.rejected l c d) r → Performs s t image l c SetSector d r
+    pub sector-uncounted : (eqb (c .count) 1 && not (chainsData c)) ≡ false → Answers (Step.refusal Step.rejected l c d) r → PerformsAlways s t image l c SetSector d r
     unfolding Step.perform
-    sector-uncounted h e = λ p st f g. uncounted 1 (λ q. Step.planSector l c d q (getD (argument p l c) 0 0)) h e st
+    sector-uncounted h e = λ last p st f g. uncounted 1 (λ q. Step.planSector l c d q (getD (argument p l c) 0 0)) h e st
 
-    pub search-uncounted : (eqb (c .count) 5 && not (chainsData c)) ≡ false → Answers (Step.refusal Step.rejected l c d) r → Performs s t image l c SearchId d r
+    pub search-uncounted : (eqb (c .count) 5 && not (chainsData c)) ≡ false → Answers (Step.refusal Step.rejected l c d) r → PerformsAlways s t image l c SearchId d r
     unfolding Step.perform
-    search-uncounted h e = λ p st f g. uncounted 5 (λ q. Step.planSearch l c d q (packOf image) (argument p l c)) h e st
+    search-uncounted h e = λ last p st f g. uncounted 5 (λ q. Step.planSearch l c d q (packOf image) (argument p l c)) h e st
 
-    pub noop-performs : Plans (Step.planNoOperation l c d) r → Performs s t image l c NoOperation d r
+    pub noop-performs : Plans (Step.planNoOperation l c d) r → PerformsAlways s t image l c NoOperation d r
     unfolding Step.perform
-    noop-performs h = λ p st f g. h st
+    noop-performs h = λ last p st f g. h st
 
-    pub unlisted-performs : Answers (Step.refusal Step.rejected l c d) r → Performs s t image l c Unlisted d r
+    pub unlisted-performs : Answers (Step.refusal Step.rejected l c d) r → PerformsAlways s t image l c Unlisted d r
     unfolding Step.perform Step.refuse
-    unlisted-performs h = λ p st f g. ap Step.answer (h st)
+    unlisted-performs h = λ last p st f g. ap Step.answer (h st)
 
-    pub seek-performs : (n y z : ℕ) → (eqb (c .count) 6 && not (chainsData c)) ≡ true → ArgumentWord s t l c 0 n → ArgumentWord s t l c 2 y → ArgumentWord s t l c 4 z
-        → Seeks n (record { cylinder = y; head = z }) l c d r → Performs s t image l c Seek d r
+    pub seek-performs : (last n y z : ℕ) → (eqb (c .count) 6 && not (chainsData c)) ≡ true → ArgumentWord s t l c 0 n → ArgumentWord s t l c 2 y → ArgumentWord s t l c 4 z
+        → Seeks last n (record { cylinder = y; head = z }) l c d r → Performs last s t image l c Seek d r
     unfolding Step.perform Step.counted Step.sought
-    seek-performs n y z h a b k e = λ p st f g.
+    seek-performs last n y z h a b k e = λ p st f g.
         pick-true _ _ h ∙ e (argument p l c) (sym (a p f g)) (ap (λ q. track q (be16At (argument p l c) 4)) (sym (b p f g)) ∙ ap (λ q. track y q) (sym (k p f g))) st
 
     pub mask-performs : (m : ℕ) → (eqb (c .count) 1 && not (chainsData c)) ≡ true → ArgumentByte s t l c 0 m → Plans (λ st. Step.planMask l c d st m) r
-        → Performs s t image l c SetMask d r
+        → PerformsAlways s t image l c SetMask d r
     unfolding Step.perform Step.counted
-    mask-performs m h b e = λ p st f g. pick-true _ _ h ∙ ap (λ q. Step.planMask l c d st q) (sym (b p f g)) ∙ e st
+    mask-performs m h b e = λ last p st f g. pick-true _ _ h ∙ ap (λ q. Step.planMask l c d st q) (sym (b p f g)) ∙ e st
 
     module _ (n : ℕ) (h : (eqb (c .count) 1 && not (chainsData c)) ≡ true) (b : ArgumentByte s t l c 0 n) where
-      pub sector-wrong : (ltb n 128 || eqb n 255) ≡ false → Answers (Step.refusal Step.rejected l c d) r → Performs s t image l c SetSector d r
+      pub sector-wrong : (ltb n 128 || eqb n 255) ≡ false → Answers (Step.refusal Step.rejected l c d) r → PerformsAlways s t image l c SetSector d r
       unfolding Step.perform Step.counted Step.planSector Step.refuse
-      sector-wrong k e = λ p st f g. pick-true _ _ h ∙ pick-false _ _ (ap (λ q. ltb q 128 || eqb q 255) (sym (b p f g)) ∙ k) ∙ ap Step.answer (e st)
+      sector-wrong k e = λ last p st f g. pick-true _ _ h ∙ pick-false _ _ (ap (λ q. ltb q 128 || eqb q 255) (sym (b p f g)) ∙ k) ∙ ap Step.answer (e st)
 
       pub sector-performs : {to : Location} {x : Abstract.Drive} → (ltb n 128 || eqb n 255) ≡ true → to ≡ next l → x ≡ Abstract.atIndex (d .at) (d .mask)
-          → Answers (Step.onward l to c 0 x) r → Performs s t image l c SetSector d r
+          → Answers (Step.onward l to c 0 x) r → PerformsAlways s t image l c SetSector d r
       unfolding Step.perform Step.counted Step.planSector
-      sector-performs k i j e = λ p st f g.
+      sector-performs k i j e = λ last p st f g.
           pick-true _ _ h ∙ pick-true _ _ (ap (λ q. ltb q 128 || eqb q 255) (sym (b p f g)) ∙ k) ∙ done-with _ _ _ _ i j e st
 
 -- ---- the five bytes of a search
@@ -257,9 +258,9 @@ five (a ∷ b ∷ c ∷ d ∷ e ∷ f ∷ g) h = absurd (omega arith)
 module _ (l : Location) (c : Ccw) (d : Drive) (r : Answer) (s t image : List ℕ) where
   pub search-performs : (b0 b1 b2 b3 b4 : ℕ) (x : Examined) → (eqb (c .count) 5 && not (chainsData c)) ≡ true → ArgumentIn s t l c
       → ArgumentByte s t l c 0 b0 → ArgumentByte s t l c 1 b1 → ArgumentByte s t l c 2 b2 → ArgumentByte s t l c 3 b3 → ArgumentByte s t l c 4 b4
-      → Examines image d (b0 ∷ b1 ∷ b2 ∷ b3 ∷ b4 ∷ []) x → Plans (λ st. searchPlan l c (driveOf d) st x) r → Performs s t image l c SearchId (driveOf d) r
+      → Examines image d (b0 ∷ b1 ∷ b2 ∷ b3 ∷ b4 ∷ []) x → Plans (λ st. searchPlan l c (driveOf d) st x) r → PerformsAlways s t image l c SearchId (driveOf d) r
   unfolding Step.perform Step.counted
-  search-performs b0 b1 b2 b3 b4 x h i a0 a1 a2 a3 a4 e q = λ p st f g.
+  search-performs b0 b1 b2 b3 b4 x h i a0 a1 a2 a3 a4 e q = λ last p st f g.
       let inside : ArgumentIn (p .arguments) (p .restartArguments) l c = rw (f, g) i in
       let bytes : argument p l c ≡ b0 ∷ b1 ∷ b2 ∷ b3 ∷ b4 ∷ [] =
       five _ (argument-length p l c inside ∙ count-is c 5 h) ∙ rw (a0 p f g, a1 p f g, a2 p f g, a3 p f g, a4 p f g) in

@@ -5,7 +5,6 @@ use mathlib.Core.Bool.{Bool, true, false}
 use mathlib.Core.List.{List}
 use Rattle.base.specs.Bytes.{be16At}
 use Rattle.address.specs.declared.Address.{Address}
-use Rattle.address.specs.Order.{lastCylinder}
 use Rattle.channel.specs.declared.Ccw.{Ccw}
 use Rattle.channel.specs.declared.Location.{Location}
 use Rattle.channel.specs.Ccw.{Lent, argument}
@@ -20,19 +19,23 @@ use Rattle.command.specs.Answer.{answerOf, settingWith}
 abbrev pub Plans : (List ℕ → Step.Plan) → Answer → Type 0
 Plans plan r = (st : List ℕ) → plan st ≡ Step.answer (answerOf r st)
 
--- The command k of the CCW c at l, on the drive d: it leaves storage as it is, whatever that is.
-abbrev pub Performs : List ℕ → List ℕ → List ℕ → Location → Ccw → Command → Abstract.Drive → Answer → Type 0
-Performs arguments restartArguments image l c k d r =
+-- The command k of the CCW c at l, on the drive d, on a pack with this last cylinder: it leaves storage as it is, whatever that is.
+abbrev pub Performs : ℕ → List ℕ → List ℕ → List ℕ → Location → Ccw → Command → Abstract.Drive → Answer → Type 0
+Performs last arguments restartArguments image l c k d r =
     (p : Lent) (st : List ℕ) → p .arguments ≡ arguments → p .restartArguments ≡ restartArguments
-    → Step.perform (settingWith p image) l c d st k ≡ Step.answer (answerOf r st)
+    → Step.perform (settingWith last p image) l c d st k ≡ Step.answer (answerOf r st)
+
+-- the same, whatever the last cylinder: no command but the seek asks for it
+abbrev pub PerformsAlways : List ℕ → List ℕ → List ℕ → Location → Ccw → Command → Abstract.Drive → Answer → Type 0
+PerformsAlways arguments restartArguments image l c k d r = (last : ℕ) → Performs last arguments restartArguments image l c k d r
 
 -- two bytes of a CCW's argument
 abbrev pub ArgumentWord : List ℕ → List ℕ → Location → Ccw → ℕ → ℕ → Type 0
 ArgumentWord s r l c k n = (p : Lent) → p .arguments ≡ s → p .restartArguments ≡ r → n ≡ be16At (argument p l c) k
 
--- every seek whose argument begins with the number n, which must be 0, and names the track a
-abbrev pub Seeks : ℕ → Address → Location → Ccw → Abstract.Drive → Answer → Type 0
-Seeks n a l c d r = (g : List ℕ) → be16At g 0 ≡ n → Step.sought g ≡ a → Plans (λ st. Step.planSeek l c d st lastCylinder g) r
+-- every seek whose argument begins with the number n, which must be 0, and names the track a, on a pack with this last cylinder
+abbrev pub Seeks : ℕ → ℕ → Address → Location → Ccw → Abstract.Drive → Answer → Type 0
+Seeks last n a l c d r = (g : List ℕ) → be16At g 0 ≡ n → Step.sought g ≡ a → Plans (λ st. Step.planSeek l c d st last g) r
 
 -- the commands that move no byte of storage, on one track
 unfoldable pub moveless : Command → Bool

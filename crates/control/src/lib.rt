@@ -1,5 +1,6 @@
 // The control commands: no-operation, seek, set file mask, set sector. They move no byte of storage.
 use address::Address;
+use address::Model;
 use channel::Ccw;
 use channel::Location;
 use command::Answer;
@@ -10,6 +11,7 @@ ghost use mathlib.Core.Path.{_≡_};
 ghost use mathlib.Core.Bool.{_&&_, _||_, not};
 ghost use Prim.Native.Nat.{_+_, _<_};
 ghost use lib.Dec.{eqb, ltb};
+ghost use Rattle.address.specs.Model.{lastOf};
 ghost use Rattle.channel.specs.Ccw.{chainsData};
 ghost use Rattle.channel.specs.Fetch.{InBytes};
 ghost use Rattle.location.specs.Low.{Low};
@@ -18,7 +20,7 @@ ghost use Rattle.drive.specs.Arguments.{ArgumentIn};
 ghost use Rattle.drive.specs.Step as Step;
 ghost use Rattle.position.specs.Standing.{driveOf, Standing};
 ghost use Rattle.command.specs.Answer.{Kept};
-ghost use Rattle.control.specs.Control.{Plans, ArgumentWord, Seeks, Performs};
+ghost use Rattle.control.specs.Control.{Plans, ArgumentWord, Seeks, Performs, PerformsAlways};
 
 // Whether a control or search command has the count that it must have, and no CD.
 pub fn counted(c: Ccw, n: usize) -> bool
@@ -62,18 +64,18 @@ fn protects(mask: FileMask) -> bool
 }
 
 // A seek, by the first two bytes of its argument and the track that it names.
-fn seek_to(image: &[u8], zero: usize, a: Address, l: Location, c: Ccw, d: Drive) -> Answer
+fn seek_to(m: Model, image: &[u8], zero: usize, a: Address, l: Location, c: Ccw, d: Drive) -> Answer
     requires { ⌜ Standing (now image) d ⌝ }
     requires { ⌜ Low l ⌝ }
     requires { ⌜ InBytes c ⌝ }
     requires { ⌜ (a .cylinder < 65536) × (a .head < 65536) ⌝ }
-    ensures { λ r. ⌜ Seeks zero a l c (driveOf d) r ⌝ }
+    ensures { λ r. ⌜ Seeks (lastOf m) zero a l c (driveOf d) r ⌝ }
     ensures { λ r. ⌜ Kept (now (image .entry)) r ⌝ }
 {
     if zero != 0 {
         return command::refuse(Check::Rejected, l, c, d);
     }
-    let on = a.on_pack(address::LAST_CYLINDER);
+    let on = a.on_pack(m);
     let mask = d.mask;
     let barred = protects(mask);
     if !on {
@@ -99,6 +101,7 @@ fn argument_word(arguments: &[u8], restart_arguments: &[u8], l: Location, c: Ccw
 }
 
 pub fn seek(
+    m: Model,
     arguments: &[u8],
     restart_arguments: &[u8],
     image: &[u8],
@@ -110,7 +113,7 @@ pub fn seek(
     requires { ⌜ Low l ⌝ }
     requires { ⌜ InBytes c ⌝ }
     requires { ⌜ ArgumentIn (now arguments) (now «restart_arguments») l c ⌝ }
-    ensures { λ r. ⌜ Performs (now (arguments .entry)) (now («restart_arguments» .entry)) (now (image .entry)) l c Commands.Seek (driveOf d) r ⌝ }
+    ensures { λ r. ⌜ Performs (lastOf m) (now (arguments .entry)) (now («restart_arguments» .entry)) (now (image .entry)) l c Commands.Seek (driveOf d) r ⌝ }
     ensures { λ r. ⌜ Kept (now (image .entry)) r ⌝ }
 {
     if !counted(c, 6) {
@@ -123,7 +126,7 @@ pub fn seek(
         cylinder: cylinder,
         head: head,
     };
-    seek_to(image, zero, a, l, c, d)
+    seek_to(m, image, zero, a, l, c, d)
 }
 
 fn is_set(mask: FileMask) -> bool
@@ -165,7 +168,7 @@ pub fn set_mask(
     requires { ⌜ Low l ⌝ }
     requires { ⌜ InBytes c ⌝ }
     requires { ⌜ ArgumentIn (now arguments) (now «restart_arguments») l c ⌝ }
-    ensures { λ r. ⌜ Performs (now (arguments .entry)) (now («restart_arguments» .entry)) (now (image .entry)) l c Commands.SetMask (driveOf d) r ⌝ }
+    ensures { λ r. ⌜ PerformsAlways (now (arguments .entry)) (now («restart_arguments» .entry)) (now (image .entry)) l c Commands.SetMask (driveOf d) r ⌝ }
     ensures { λ r. ⌜ Kept (now (image .entry)) r ⌝ }
 {
     if !counted(c, 1) {
@@ -197,7 +200,7 @@ pub fn set_sector(
     requires { ⌜ Low l ⌝ }
     requires { ⌜ InBytes c ⌝ }
     requires { ⌜ ArgumentIn (now arguments) (now «restart_arguments») l c ⌝ }
-    ensures { λ r. ⌜ Performs (now (arguments .entry)) (now («restart_arguments» .entry)) (now (image .entry)) l c Commands.SetSector (driveOf d) r ⌝ }
+    ensures { λ r. ⌜ PerformsAlways (now (arguments .entry)) (now («restart_arguments» .entry)) (now (image .entry)) l c Commands.SetSector (driveOf d) r ⌝ }
     ensures { λ r. ⌜ Kept (now (image .entry)) r ⌝ }
 {
     if !counted(c, 1) {

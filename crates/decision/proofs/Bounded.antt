@@ -1,11 +1,11 @@
 -- A decision in an extent.
---   pack-low                     the numbers of a track of the pack
---   plan-low, overflow-low       the numbers of a restart whose seek is allowed
+--   pack-low, track-low          the numbers of a track of the pack, and of one that a restart may seek
+--   plan-low, overflow-low       those of a restart whose seek is allowed
 --   restart-in .. no-restart     what the code returns
 --   by-seek, overflow-by-seek    a restart, carried out
 --   refusal-is                   a refusal, carried out
 --   applied-pick                 one of two answers
-use Prim.Native.Nat.{ℕ, _<_, _≤_}
+use Prim.Native.Nat.{ℕ, _<_}
 use native.Mathlib.Omega.{arith}
 use mathlib.Core.Path.{_≡_, refl}
 use mathlib.Core.Bool.{Bool, true, false}
@@ -20,8 +20,10 @@ use Rattle.base.proofs.Choice.{and-left, and-right}
 use Rattle.questions.specs.declared.Question.{Question}
 use Rattle.address.specs.declared.Address.{Address}
 use Rattle.address.specs.declared.Extent.{Extent}
-use Rattle.address.specs.Order.{lastCylinder, onPack}
+use Rattle.address.specs.Model.{lastOf}
+use Rattle.address.specs.Order.{onPack}
 use Rattle.address.specs.Within.{within}
+use Rattle.address.proofs.Models.{last-low}
 use Rattle.channel.specs.Fetch.{InBytes}
 use Rattle.restart.specs.Restart.{overflowProgram, restartArgumentsOf}
 use Rattle.restart_areas.specs.Placed.{TicLow}
@@ -38,19 +40,25 @@ use Rattle.decision.specs.declared.Decision.the-variants.{Answers, Corre
 use Rattle.decision.specs.Decision.{programFor, argumentsFor, done, bounded, PlanLow, OverflowLow, DecisionLow}
 use Rattle.decision.proofs.Decision as DecisionType
 
-pub pack-low : (a : Address) → onPack lastCylinder a ≡ true → (a .cylinder ≤ 410) × (a .head ≤ 18)
+pack-low : (last : ℕ) (a : Address) → onPack last a ≡ true → last < 0x10000 → (a .cylinder < 0x10000) × (a .head < 0x10000)
 unfolding onPack
-pack-low a h = (leb-true _ _ (and-left (leb (a .cylinder) 410) (leb (a .head) 18) h), leb-true _ _ (and-right (leb (a .cylinder) 410) (leb (a .head) 18) h))
+pack-low last a h n =
+    let cylinder = leb-true (a .cylinder) last (and-left (leb (a .cylinder) last) (leb (a .head) 18) h) in
+    let head = leb-true (a .head) 18 (and-right (leb (a .cylinder) last) (leb (a .head) 18) h) in
+    (omega (arith, cylinder, n), omega (arith, head))
+
+track-low : (x : Extent) (a : Address) → allowed x a ≡ true → (a .cylinder < 0x10000) × (a .head < 0x10000)
+track-low x a h = pack-low (lastOf (x .model)) a (and-left (onPack (lastOf (x .model)) a) (within x a) h) (last-low (x .model))
 
 pub plan-low : (x : Extent) (q : RestartPlan) → allowed x (q .track) ≡ true → q .to < 0x10000 → PlanLow q
 plan-low x q h n =
-    let low = pack-low (q .track) (and-left (onPack lastCylinder (q .track)) (within x (q .track)) h) in
-    record { to-low = n; cylinder-low = omega (arith, low .0); head-low = omega (arith, low .1) }
+    let low = track-low x (q .track) h in
+    record { to-low = n; cylinder-low = low .0; head-low = low .1 }
 
 pub overflow-low : (x : Extent) (q : OverflowPlan) → allowed x (q .track) ≡ true → InBytes (q .first) × TicLow (q .tic) → OverflowLow q
 overflow-low x q h n =
-    let low = pack-low (q .track) (and-left (onPack lastCylinder (q .track)) (within x (q .track)) h) in
-    record { first-low = n .0; tic-low = n .1; cylinder-low = omega (arith, low .0); head-low = omega (arith, low .1) }
+    let low = track-low x (q .track) h in
+    record { first-low = n .0; tic-low = n .1; cylinder-low = low .0; head-low = low .1 }
 
 module _ (x : Extent) (d : Decision) (q : RestartPlan) (c : Correction) (e : d ≡ Restarts q c) where
   pub restart-in : allowed x (q .track) ≡ true → Restarts q c ≡ bounded x d

@@ -6,6 +6,7 @@ use lib.ListN.{length}
 use Rattle.base.specs.Choice.{pick}
 use Rattle.address.specs.declared.Address.{Address}
 use Rattle.address.specs.declared.Extent.{Extent}
+use Rattle.address.specs.Model.{lastOf}
 use Rattle.channel.specs.Fetch.{InBytes}
 use Rattle.drive.specs.declared.FileMask.{FileMask}
 use Rattle.restart.specs.declared.ReadCount.{ReadCount}
@@ -83,7 +84,7 @@ Means x d st p a q = done (bounded x d) st p a ≡ applied q st p a
 -- What f makes of every report that tells this, in every extent, and of every storage of this length.
 abbrev pub Decides : (Given → Report → List ℕ → Recovery.Recovery) → (chain : List ℕ) → ℕ → Told → Decision → Type 0
 Decides f chain size t d =
-    (rows : List Row) (x : Extent) (r : Report) (st p a : List ℕ) → Tells r t → length st ≡ size
+    (rows : List Row) (x : Extent) (r : Report) (st p a : List ℕ) → Tells (lastOf (x .model)) r t → length st ≡ size
     → Means x d st p a (f (givenOf rows chain x) r st)
 
 -- ---- what fits its bytes

@@ -83,12 +83,12 @@ module _ (g : Lending) (e : End) (b : Begins g) (p : Provided g e) where
   unfolding takesFaulted flag nameIf opt pick
   marks s = marked-if _ (λ a. split (a .faulted) (λ e. rw e) (λ e. rw e)) (areaIn (g .faults) (plan w s))
 
-  reads : Reads (restartedRun (g .faults) w) (recoverCut (givenIn w rows (extentOf (g .extent)))) final recovered (SeeksInside (extentOf (g .extent)))
+  reads : Reads (restartedRun (g .faults) w) (recoverCut (givenIn w rows (extentOf (g .model) (g .extent)))) final recovered (SeeksInside (extentOf (g .model) (g .extent)))
       (g .limit) (record { made = []; built = [] }) (run (step (g .faults) w) limitOf (g .limit) begun) (endOf g e) (notes (step [] w) (flag (g .faults) w) (g .limit) begun)
   unfolding endOf endsAtCount
   reads =
       let small = areas-limit _ _ _ _ _ (g .limit) (b .areas) in
-      whole (step (g .faults) w) limitOf (restartedRun (g .faults) w) (recoverCut (givenIn w rows (extentOf (g .extent)))) final recovered restartLimit 260 (SeeksInside (extentOf (g .extent)))
+      whole (step (g .faults) w) limitOf (restartedRun (g .faults) w) (recoverCut (givenIn w rows (extentOf (g .model) (g .extent)))) final recovered restartLimit 260 (SeeksInside (extentOf (g .model) (g .extent)))
       (step [] w) (flag (g .faults) w) (takesFaulted g) (endsByStep w) atCount (Fine g b (p .inside)) Good
       (λ s fine q. unflagged (g .faults) w s q) marks (goes-on g b (p .inside)) (closes g b (p .inside))
       (g .limit) begun e runs (p .sound) (all-fine (g .limit) begun stays) (omega arith)
@@ -101,7 +101,7 @@ module _ (g : Lending) (e : End) (b : Begins g) (p : Provided g e) where
     built = reads .built;
     same-end = rw no-tic (reads .same-end);
     same-areas = reads .same-names ∙ flags-are (g .faults) w (g .limit) begun;
-    inside = each-inside (extentOf (g .extent)) (reads .built) (reads .inside);
+    inside = each-inside (extentOf (g .model) (g .extent)) (reads .built) (reads .inside);
   }
 
 pub demand-three : DemandThree

@@ -16,7 +16,8 @@ use Rattle.base.specs.Choice.{pick, opt}
 use Rattle.base.proofs.Choice.{split, and-left, and-right, some-is}
 use Rattle.address.specs.declared.Address.{Address}
 use Rattle.address.specs.declared.Extent.{Extent}
-use Rattle.address.specs.Order.{lastCylinder, same, onPack}
+use Rattle.address.specs.Model.{lastOf}
+use Rattle.address.specs.Order.{same, onPack}
 use Rattle.address.specs.Within.{extentOf, within}
 use Rattle.pack.specs.Pack.{Record, Track, packOf, trackIn, numbered, recordIn}
 use Rattle.image.specs.Image.{zeroFirst, soundRecords, soundTrack}
@@ -98,7 +99,7 @@ pub record Hit (g : Lending) (s : State) (h : Named) : Type 0 where
   pub reached : Drive
   pub reached-at : reached .at ≡ y .at
   pub after-is : t .after ≡ Drive.movedPast reached place false 0
-  pub on-pack : onPack lastCylinder (y .at) ≡ true
+  pub on-pack : onPack (lastOf (g .model)) (y .at) ≡ true
   pub below : place < length (track .records)
   pub few : length (track .records) ≤ 256
   pub not-zero : 0 < place
@@ -109,7 +110,7 @@ pub record Hit (g : Lending) (s : State) (h : Named) : Type 0 where
   pub in-read : f .displacement ≤ length (t .bytes)
   pub short : length (t .bytes) ≤ 13038
   pub three : length (f .pattern) ≡ 3
-  pub inside : within (extentOf (g .extent)) (y .at) ≡ true
+  pub inside : within (extentOf (g .model) (g .extent)) (y .at) ≡ true
 
 all-inside : (x : Extent) (fs : List Fault) → allInside x fs ≡ true → (a : Address) (r : ℕ) (f : Fault) → naming fs a r ≡ some f → within x (f .at) ≡ true
 unfolding allInside naming pick
@@ -135,7 +136,7 @@ not-first [] h i k = let v : _≡_ {A = ℕ} 0 1 = cc in absurd (omega arith)
 not-first (x ∷ xs) h zero k = let z : x .r ≡ 0 = eqb-true _ _ h in absurd (omega arith)
 not-first (x ∷ xs) h (suc i) k = omega arith
 
-module _ (g : Lending) (b : Begins g) (inside : allInside (extentOf (g .extent)) (g .faults) ≡ true) (s : State) where
+module _ (g : Lending) (b : Begins g) (inside : allInside (extentOf (g .model) (g .extent)) (g .faults) ≡ true) (s : State) where
   abbrev w : Setting
   w = settingOf g
 
@@ -144,11 +145,11 @@ module _ (g : Lending) (b : Begins g) (inside : allInside (extentOf (g .extent))
     unfolding settingOf
     track-there = T .track-is
 
-    sound : (soundTrack lastCylinder (T .track) ≡ true) × (T .track .at ≡ T .reached .at)
-    sound = track-sound lastCylinder (g .image) (T .reached .at) (T .track) (b .image) track-there
+    sound : (soundTrack (lastOf (g .model)) (T .track) ≡ true) × (T .track .at ≡ T .reached .at)
+    sound = track-sound (lastOf (g .model)) (g .image) (T .reached .at) (T .track) (b .image) track-there
 
-    parts : (onPack lastCylinder (T .track .at) ≡ true) × (zeroFirst (T .track .records) ≡ true) × (soundRecords (T .track .at) [] (T .track .records) ≡ true)
-    parts = track-parts lastCylinder (T .track) (sound .0)
+    parts : (onPack (lastOf (g .model)) (T .track .at) ≡ true) × (zeroFirst (T .track .records) ≡ true) × (soundRecords (T .track .at) [] (T .track .records) ≡ true)
+    parts = track-parts (lastOf (g .model)) (T .track) (sound .0)
 
     each : (j : ℕ) → j < length (T .track .records) → RecordSays (T .track .at) (getD (T .track .records) j noRecord)
     each j k = record-says (T .track .at) (T .track .records) (parts .2) j noRecord k
@@ -206,7 +207,7 @@ module _ (g : Lending) (b : Begins g) (inside : allInside (extentOf (g .extent))
       in-read = omega (arith, in-data, T .body-in);
       short = omega (arith, y-says .short, T .bytes-few);
       three = pattern-three (g .faultList) (g .faults) (b .listed) (y .at) (y .r) f named;
-      inside = rw (fault-sound .0) at (all-inside (extentOf (g .extent)) (g .faults) inside (y .at) (y .r) f named);
+      inside = rw (fault-sound .0) at (all-inside (extentOf (g .model) (g .extent)) (g .faults) inside (y .at) (y .r) f named);
     }
 
   pub hit : (h : Named) → flag (g .faults) w s ≡ some h → Hit g s h

@@ -162,7 +162,7 @@ pub checked-channel : (l : Location) (d : Drive) (st : List ℕ) (e : End) → p
 unfolding programCheck cswAt
 checked-channel l d st e h = let k : checkedAt l d st ≡ e = ends-is h in rw (← k) refl
 
-module _ (g : Lending) (b : Begins g) (inside : allInside (extentOf (g .extent)) (g .faults) ≡ true) where
+module _ (g : Lending) (b : Begins g) (inside : allInside (extentOf (g .model) (g .extent)) (g .faults) ≡ true) where
   abbrev fs : List Fault
   fs = g .faults
 
@@ -170,7 +170,7 @@ module _ (g : Lending) (b : Begins g) (inside : allInside (extentOf (g .extent))
   w = settingOf g
 
   abbrev given : Given
-  given = givenIn w rows (extentOf (g .extent))
+  given = givenIn w rows (extentOf (g .model) (g .extent))
 
   chain-short : length (w .lent .chain) ≤ 4096
   unfolding settingOf
@@ -221,7 +221,7 @@ module _ (g : Lending) (b : Begins g) (inside : allInside (extentOf (g .extent))
       settles : {a : Answer} → clean s ≡ a → settled (H .t .bytes) (H .t .after) (s .storage) (walked ps z c left over) ≡ a
       settles e = sym (clean-is ∙ ap (settled (H .t .bytes) (H .t .after) (s .storage)) walk-is) ∙ e
 
-      closed-at : (e : End) → clean s ≡ ends e → Closed faulty limitOf (restartedRun fs w) (recoverCut given) final recovered restartLimit 260 (SeeksInside (extentOf (g .extent))) h s e
+      closed-at : (e : End) → clean s ≡ ends e → Closed faulty limitOf (restartedRun fs w) (recoverCut given) final recovered restartLimit 260 (SeeksInside (extentOf (g .model) (g .extent))) h s e
       unfolding recoverCut answered givenIn recovered entryOf
       closed-at e q =
           let f = settled-ends (H .t .bytes) (H .t .after) (s .storage) ps z c left over e (settles q) in
@@ -313,8 +313,8 @@ module _ (g : Lending) (b : Begins g) (inside : allInside (extentOf (g .extent))
               rw (Commands.fetches w (H .y .at) 0 (H .y .r) to m counts .seek, ← e)
               (r .0 ∙ run-joins fs w (first .program) (first .restartArguments) n _ behind (r .1) (next-in z ends-in-chain))
 
-          mended-at : Mended faulty limitOf (restartedRun fs w) (recoverCut given) final recovered restartLimit 260 (SeeksInside (extentOf (g .extent))) h s behind
-          unfolding recovered entryOf searchProgram programOf programEnding searchArguments restartArgumentsOf padded ccwBytes addressBytes two three
+          mended-at : Mended faulty limitOf (restartedRun fs w) (recoverCut given) final recovered restartLimit 260 (SeeksInside (extentOf (g .model) (g .extent))) h s behind
+          unfolding extentOf recovered entryOf searchProgram programOf programEnding searchArguments restartArgumentsOf padded ccwBytes addressBytes two three
           mended-at = record {
             report = cut-is;
             entry = entryOf kind cut-is;
@@ -363,8 +363,8 @@ module _ (g : Lending) (b : Begins g) (inside : allInside (extentOf (g .extent))
               rw (counts-is, Commands.fetches w (H .y .at) 0 (H .y .r) to m Multitrack .seek, ← e, count-place m)
               (to-count-failed fs w (H .y .at) 0 (H .y .r) to st m (H .track) (H .place) x (is true) sought may (omega arith) n)
 
-          strayed-at : Strayed faulty limitOf (restartedRun fs w) (recoverCut given) final recovered restartLimit 260 (SeeksInside (extentOf (g .extent))) h s (atCount end-there)
-          unfolding recovered entryOf searchProgram programOf programEnding searchArguments restartArgumentsOf padded ccwBytes addressBytes two three
+          strayed-at : Strayed faulty limitOf (restartedRun fs w) (recoverCut given) final recovered restartLimit 260 (SeeksInside (extentOf (g .model) (g .extent))) h s (atCount end-there)
+          unfolding extentOf recovered entryOf searchProgram programOf programEnding searchArguments restartArgumentsOf padded ccwBytes addressBytes two three
           strayed-at = record {
             report = cut-is;
             entry = entryOf kind cut-is;
@@ -379,12 +379,12 @@ module _ (g : Lending) (b : Begins g) (inside : allInside (extentOf (g .extent))
     -- ---- by the walk
 
     abbrev Closes : End → Type 0
-    Closes e = Closed faulty limitOf (restartedRun fs w) (recoverCut given) final recovered restartLimit 260 (SeeksInside (extentOf (g .extent))) h s e
+    Closes e = Closed faulty limitOf (restartedRun fs w) (recoverCut given) final recovered restartLimit 260 (SeeksInside (extentOf (g .model) (g .extent))) h s e
 
     -- what comes of a cut where the chain goes on at t, and ends with e
     abbrev Goes : State → End → Type 0
     Goes t e =
-        GoesOn faulty limitOf (restartedRun fs w) (recoverCut given) final recovered restartLimit 260 (SeeksInside (extentOf (g .extent)))
+        GoesOn faulty limitOf (restartedRun fs w) (recoverCut given) final recovered restartLimit 260 (SeeksInside (extentOf (g .model) (g .extent)))
         clean (flag fs w) (takesFaulted g) (endsByStep w) atCount h s t e (endsByStep w t)
 
     closes-hit : (e : End) → clean s ≡ ends e → Good e → Closes e
@@ -478,10 +478,10 @@ module _ (g : Lending) (b : Begins g) (inside : allInside (extentOf (g .extent))
               let x : _≡_ {A = ℕ} 0 1 = cc in absurd (omega arith)
 
   pub closes : (h : Named) (s : State) (e : End) → Fine s → flag fs w s ≡ some h → clean s ≡ ends e → Good e
-      → Closed faulty limitOf (restartedRun fs w) (recoverCut given) final recovered restartLimit 260 (SeeksInside (extentOf (g .extent))) h s e
+      → Closed faulty limitOf (restartedRun fs w) (recoverCut given) final recovered restartLimit 260 (SeeksInside (extentOf (g .model) (g .extent))) h s e
   closes h s e fine f q good = closes-hit s fine h (hit g b inside s h f) e q good
 
   pub goes-on : (h : Named) (s t : State) (n : ℕ) (e : End) → Fine s → flag fs w s ≡ some h → clean s ≡ goes t → run clean limitOf n t ≡ ended e → Good e
-      → GoesOn faulty limitOf (restartedRun fs w) (recoverCut given) final recovered restartLimit 260 (SeeksInside (extentOf (g .extent)))
+      → GoesOn faulty limitOf (restartedRun fs w) (recoverCut given) final recovered restartLimit 260 (SeeksInside (extentOf (g .model) (g .extent)))
       clean (flag fs w) (takesFaulted g) (endsByStep w) atCount h s t e (endsByStep w t)
   goes-on h s t n e fine f q rest good = goes-hit s fine h (hit g b inside s h f) t q n e rest good

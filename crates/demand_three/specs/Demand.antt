@@ -19,7 +19,9 @@ use Rattle.base.specs.Choice.{pick, opt}
 use Rattle.questions.specs.Areas.{runAreas}
 use Rattle.address.specs.declared.Address.{Address}
 use Rattle.address.specs.declared.Extent.{Extent}
-use Rattle.address.specs.Order.{lastCylinder, onPack}
+use Rattle.address.specs.declared.Model.{Model}
+use Rattle.address.specs.Model.{lastOf}
+use Rattle.address.specs.Order.{onPack}
 use Rattle.address.specs.Within.{extentOf, within, soundExtent}
 use Rattle.pack.specs.Pack.{packOf}
 use Rattle.image.specs.Image.{wellFormed}
@@ -49,11 +51,13 @@ pub record Lending : Type 0 where
   pub faults : List Fault
   pub extent : List ℕ
   pub limit : ℕ
+  -- of the pack
+  pub model : Model
 
 -- what a run of the chain is told: the pack of the image, the chain and the arguments; there is no restart program
 unfoldable pub settingOf : Lending → Setting
 settingOf g = record {
-  last = lastCylinder;
+  last = lastOf (g .model);
   pack = packOf (g .image);
   lent = record { chain = g .chain; arguments = g .arguments; program = []; restartArguments = [] };
 }
@@ -61,10 +65,10 @@ settingOf g = record {
 -- "A reading refuses only by questions 1, 2, 3 and 5, before it begins."
 pub record Begins (g : Lending) : Type 0 where
   pub areas : runAreas (length (g .chain)) (length (g .arguments)) (length (g .storage)) (length (g .image)) (length (g .faultList)) (g .limit) ≡ true
-  pub image : wellFormed lastCylinder (g .image) ≡ true
+  pub image : wellFormed (lastOf (g .model)) (g .image) ≡ true
   pub listed : faultsAt (g .faultList) 0 ≡ some (g .faults)
   pub faults : soundFaults (packOf (g .image)) (g .faults) ≡ true
-  pub extent : (length (g .extent) ≡ 8) × (soundExtent lastCylinder (extentOf (g .extent)) ≡ true)
+  pub extent : (length (g .extent) ≡ 8) × (soundExtent (extentOf (g .model) (g .extent)) ≡ true)
 
 -- ---- the provisos
 
@@ -75,7 +79,7 @@ allInside x (f ∷ fs) = pick (within x (f .at)) (allInside x fs) false
 
 -- the faultless run: "the same chain, arguments, lent storage, image and limit, with no faults"
 pub record Provided (g : Lending) (e : End) : Type 0 where
-  pub inside : allInside (extentOf (g .extent)) (g .faults) ≡ true
+  pub inside : allInside (extentOf (g .model) (g .extent)) (g .faults) ≡ true
   -- it "ends within the chain's command limit", with e
   pub faultless : runFrom [] (settingOf g) (g .limit) (Chain 0) (g .storage) ≡ ended e
   -- "and not by a program check"
@@ -144,7 +148,7 @@ pub record SeeksInside (x : Extent) (r : Restarted) : Type 0 where
   pub track : Address
   pub seek : take 8 (r .program) ≡ ccwBytes 0x07 0x2000 0x40 6
   pub argument : take 6 (r .restartArguments) ≡ 0 ∷ 0 ∷ addressBytes track
-  pub on-pack : onPack lastCylinder track ≡ true
+  pub on-pack : onPack (lastOf (x .model)) track ≡ true
   pub inside : within x track ≡ true
 
 -- the same of each restart that was built
@@ -157,12 +161,12 @@ pub record LikeFaultless (g : Lending) (e : End) : Type 0 where
   pub made : List Entry
   pub built : List Restarted
   -- it ends, neither as "limit" nor as "stopped", with the same CSW and storage, but for the exception
-  pub same-end : wholeReading (g .faults) (settingOf g) rows (extentOf (g .extent)) (g .limit) (g .storage)
+  pub same-end : wholeReading (g .faults) (settingOf g) rows (extentOf (g .model) (g .extent)) (g .limit) (g .storage)
       ≡ ends (record { made = made; built = built }) (final (endOf g e))
   -- its recoveries are the faulted data areas that the faultless run reads, "one for each time"
   pub same-areas : map recovered made ≡ faultedAreas g
   -- "no restart's own seek lies outside the extent"
-  pub inside : EachInside (extentOf (g .extent)) built
+  pub inside : EachInside (extentOf (g .model) (g .extent)) built
 
 -- DEMAND 3. "The equality of cut and uncut chains leaves out overflow records, which the trial drive lacks." (document 02): none of its cuts is inside one.
 abbrev pub DemandThree : Type 0

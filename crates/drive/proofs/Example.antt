@@ -7,6 +7,8 @@ use lib.ListN.{replicate}
 use Rattle.base.specs.Choice.{pick, opt}
 use Rattle.base.specs.Bytes.{part, two}
 use Rattle.base.specs.Bits.{bitOn}
+use Rattle.address.specs.declared.Model.the-variants.{One}
+use Rattle.address.specs.Model.{lastOf}
 use Rattle.address.specs.Order.{same, onPack}
 use Rattle.pack.specs.Pack.{Record, Track, trackIn}
 use Rattle.faults.specs.Faults.{Fault, naming}
@@ -45,7 +47,7 @@ fault : Fault
 fault = record { at = record { cylinder = 0; head = 1 }; r = 1; displacement = 3; pattern = 0 ∷ 1 ∷ 0 ∷ [] }
 
 setting : Step.Setting
-setting = record { last = 410; pack = pack; lent = record { chain = chain; arguments = arguments; program = []; restartArguments = [] } }
+setting = record { last = lastOf One; pack = pack; lent = record { chain = chain; arguments = arguments; program = []; restartArguments = [] } }
 
 -- the fault changes the third byte of the four: displacement 3 names the second, and its pattern byte is 0
 cut-at-the-first-read : Run.runFrom (fault ∷ []) setting 4096 (Chain 0) (replicate 16 0)

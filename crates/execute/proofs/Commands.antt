@@ -139,22 +139,22 @@ module _ (image : List ℕ) (c : Ccw) (d : Drive) where
   -- a search that is rejected, whatever the drive
   pub search-rejected : {k : Command} → k ≡ SearchIdMultitrack → (eqb (c .count) 5 && not (chainsData c)) ≡ false → ReachesFor image c k (driveOf d) (Reaches d)
   unfolding Step.perform Step.counted Step.onReached singleTrack
-  search-rejected e h = λ p l st. rw e (pick-false _ _ h ∙ sym (pick-false _ _ h))
+  search-rejected e h = λ last p l st. rw e (pick-false _ _ h ∙ sym (pick-false _ _ h))
 
   pub search-reaches : {k : Command} (r : Reached) → k ≡ SearchIdMultitrack → (eqb (c .count) 5 && not (chainsData c)) ≡ true
       → reachedOf r ≡ Step.searchFrom (packOf image) (driveOf d) → ReachesFor image c k (driveOf d) r
   unfolding Step.perform Step.counted Step.planSearchMultitrack singleTrack
-  search-reaches r e h at-r = λ p l st.
+  search-reaches r e h at-r = λ last p l st.
       rw (e, ← at-r) (pick-true _ _ h ∙ reached-same _ _ (λ x. sym (pick-true _ _ h)))
 
   pub read-reaches : {k : Command} (m : Read) (r : Reached) → k ≡ ReadMultitrack m → reachedOf r ≡ Step.takeFrom (packOf image) (m .just) (driveOf d)
       → ReachesFor image c k (driveOf d) r
   unfolding Step.perform Step.planReadMultitrack singleTrack
-  read-reaches m r e at-r = λ p l st. rw (e, ← at-r) refl
+  read-reaches m r e at-r = λ last p l st. rw (e, ← at-r) refl
 
   pub other-reaches : {k : Command} → k ≡ singleTrack k → ReachesFor image c k (driveOf d) (Reaches d)
   unfolding Step.onReached
-  other-reaches e = λ p l st. ap (Step.perform (settingWith p image) l c (driveOf d) st) e
+  other-reaches e = λ last p l st. ap (Step.perform (settingWith last p image) l c (driveOf d) st) e
 
 module _ (chain arguments program restartArguments : List ℕ) where
   abbrev p : Lent
@@ -185,35 +185,35 @@ module _ (chain arguments program restartArguments : List ℕ) where
       pub unchecked : b ≡ true → Unchecked chain arguments program restartArguments st l c k
       unchecked h = sym (s p refl refl) ∙ h
 
-      module _ (image faults : List ℕ) (d : Abstract.Drive) (r : Answer) where
-        pub checked : b ≡ false → Answers (Step.programCheck l d) r → Executes chain arguments program restartArguments image faults l c d st r st
+      module _ (last : ℕ) (image faults : List ℕ) (d : Abstract.Drive) (r : Answer) where
+        pub checked : b ≡ false → Answers (Step.programCheck l d) r → Executes last chain arguments program restartArguments image faults l c d st r st
         unfolding Step.execute Step.carry
         checked h a = λ fs f. ap (Step.carry fs st) (pick-false _ _ (sym sound-is ∙ h)) ∙ a st
 
-        pub performed : (after : List ℕ) → b ≡ true → Performs chain arguments program restartArguments image faults l c k d st r after
-            → Executes chain arguments program restartArguments image faults l c d st r after
+        pub performed : (after : List ℕ) → b ≡ true → Performs last chain arguments program restartArguments image faults l c k d st r after
+            → Executes last chain arguments program restartArguments image faults l c d st r after
         unfolding Step.execute
         performed after h q = λ fs f.
-            ap (Step.carry fs st) (pick-true _ _ (sym sound-is ∙ h) ∙ ap (Step.perform (settingWith p image) l c d st) (sym e)) ∙ q fs f
+            ap (Step.carry fs st) (pick-true _ _ (sym sound-is ∙ h) ∙ ap (Step.perform (settingWith last p image) l c d st) (sym e)) ∙ q fs f
 
   -- ---- by the command
 
-  module _ (image faults : List ℕ) (l : Location) (c : Ccw) (k : Command) (st : List ℕ) (r : Answer) where
+  module _ (last : ℕ) (image faults : List ℕ) (l : Location) (c : Ccw) (k : Command) (st : List ℕ) (r : Answer) where
     abbrev w : Step.Setting
-    w = settingWith p image
+    w = settingWith last p image
 
     module _ (d : Abstract.Drive) where
       pub home-performs : (after : List ℕ) → k ≡ ReadHome → Homes chain program l c d image st r after
-          → Performs chain arguments program restartArguments image faults l c k d st r after
+          → Performs last chain arguments program restartArguments image faults l c k d st r after
       unfolding Step.perform
       home-performs after e h = λ fs f. ap (λ q. Step.carry fs st (Step.perform w l c d st q)) e ∙ h p fs refl refl
 
       pub record-performs : (after : List ℕ) (m : Read) → k ≡ ReadRecord m → Carries chain program faults st (recordPlan l c d st image m) r after
-          → Performs chain arguments program restartArguments image faults l c k d st r after
+          → Performs last chain arguments program restartArguments image faults l c k d st r after
       unfolding Step.perform
       record-performs after m e h = λ fs f. ap (λ q. Step.carry fs st (Step.perform w l c d st q)) e ∙ h p fs refl refl f
 
-      pub other-performs : Control.Performs arguments restartArguments image l c k d r → Performs chain arguments program restartArguments image faults l c k d st r st
+      pub other-performs : Control.Performs last arguments restartArguments image l c k d r → Performs last chain arguments program restartArguments image faults l c k d st r st
       unfolding Step.carry
       other-performs h = λ fs f. ap (Step.carry fs st) (h p st refl refl)
 
@@ -222,15 +222,15 @@ module _ (chain arguments program restartArguments : List ℕ) where
     module _ (d : Drive) where
       pub failed-performs : (t : Reached) (x : Step.Check) → reachedOf t ≡ Step.fails x → ReachesFor image c k (driveOf d) t
           → Answers (Step.refusal x l c (driveOf d)) r
-          → Performs chain arguments program restartArguments image faults l c k (driveOf d) st r st
+          → Performs last chain arguments program restartArguments image faults l c k (driveOf d) st r st
       unfolding Step.onReached Step.refuse Step.carry
-      failed-performs t x e reach a = λ fs f. ap (Step.carry fs st) (rw e at (reach p l st)) ∙ a st
+      failed-performs t x e reach a = λ fs f. ap (Step.carry fs st) (rw e at (reach last p l st)) ∙ a st
 
       pub reached-performs : (e : Drive) (after : List ℕ) → ReachesFor image c k (driveOf d) (Reaches e)
-          → Performs chain arguments program restartArguments image faults l c (singleTrack k) (driveOf e) st r after
-          → Performs chain arguments program restartArguments image faults l c k (driveOf d) st r after
+          → Performs last chain arguments program restartArguments image faults l c (singleTrack k) (driveOf e) st r after
+          → Performs last chain arguments program restartArguments image faults l c k (driveOf d) st r after
       unfolding Step.onReached
-      reached-performs e after reach h = λ fs f. ap (Step.carry fs st) (reach p l st) ∙ h fs f
+      reached-performs e after reach h = λ fs f. ap (Step.carry fs st) (reach last p l st) ∙ h fs f
 
   -- ---- by what was fetched
 
@@ -239,13 +239,13 @@ module _ (chain arguments program restartArguments : List ℕ) where
     broken-low l h low e =
         subst (Shown Low) (sym (e p refl refl)) (resolve-shown Low p (λ k c f. inside-low chain program h k (fetched-inside p k c f)) (s .last) (s .at) low)
 
-    module _ (image faults st : List ℕ) (r : Answer) where
+    module _ (last : ℕ) (image faults st : List ℕ) (r : Answer) where
       pub broken : (l : Location) → Resolves chain program (s .last) (s .at) (Broken l) → Answers (Step.programCheck l (driveOf (s .drive))) r
-          → Steps chain arguments program restartArguments image faults s st r st
+          → Steps last chain arguments program restartArguments image faults s st r st
       unfolding Step.step Step.plan Step.dispatch Step.carry
-      broken l e a = λ fs f. ap (λ q. Step.carry fs st (Step.dispatch (settingWith p image) (driveOf (s .drive)) st q)) (sym (e p refl refl)) ∙ a st
+      broken l e a = λ fs f. ap (λ q. Step.carry fs st (Step.dispatch (settingWith last p image) (driveOf (s .drive)) st q)) (sym (e p refl refl)) ∙ a st
 
       pub got : (l : Location) (c : Ccw) (after : List ℕ) → Resolves chain program (s .last) (s .at) (Got l c)
-          → Executes chain arguments program restartArguments image faults l c (driveOf (s .drive)) st r after → Steps chain arguments program restartArguments image faults s st r after
+          → Executes last chain arguments program restartArguments image faults l c (driveOf (s .drive)) st r after → Steps last chain arguments program restartArguments image faults s st r after
       unfolding Step.step Step.plan Step.dispatch
-      got l c after e a = λ fs f. ap (λ q. Step.carry fs st (Step.dispatch (settingWith p image) (driveOf (s .drive)) st q)) (sym (e p refl refl)) ∙ a fs f
+      got l c after e a = λ fs f. ap (λ q. Step.carry fs st (Step.dispatch (settingWith last p image) (driveOf (s .drive)) st q)) (sym (e p refl refl)) ∙ a fs f

@@ -20,19 +20,19 @@ use Rattle.command.specs.Answer.{stateOf, answerOf, settingWith, lentOf}
 use Rattle.heads.specs.declared.Reached.{Reached}
 use Rattle.heads.specs.Reached.{reachedOf}
 
--- One command, from a state and storage: what it comes to, and storage behind it.
-abbrev pub Steps : (chain arguments program restartArguments image faults : List ℕ) → State → List ℕ → Answer → List ℕ → Type 0
-Steps chain arguments program restartArguments image faults s st r after =
+-- One command, from a state and storage, on a pack with this last cylinder: what it comes to, and storage behind it.
+abbrev pub Steps : ℕ → (chain arguments program restartArguments image faults : List ℕ) → State → List ℕ → Answer → List ℕ → Type 0
+Steps last chain arguments program restartArguments image faults s st r after =
     (fs : List Fault) → faultsAt faults 0 ≡ some fs
-    → Step.step fs (settingWith (lentOf chain arguments program restartArguments) image) (stateOf s st) ≡ answerOf r after
+    → Step.step fs (settingWith last (lentOf chain arguments program restartArguments) image) (stateOf s st) ≡ answerOf r after
 
 -- ---- the CCW c at l, once it is fetched
 
 -- what it comes to, on the drive d and with storage st, and storage behind it
-abbrev pub Executes : (chain arguments program restartArguments image faults : List ℕ) → Location → Ccw → Abstract.Drive → List ℕ → Answer → List ℕ → Type 0
-Executes chain arguments program restartArguments image faults l c d st r after =
+abbrev pub Executes : ℕ → (chain arguments program restartArguments image faults : List ℕ) → Location → Ccw → Abstract.Drive → List ℕ → Answer → List ℕ → Type 0
+Executes last chain arguments program restartArguments image faults l c d st r after =
     (fs : List Fault) → faultsAt faults 0 ≡ some fs
-    → Step.carry fs st (Step.execute (settingWith (lentOf chain arguments program restartArguments) image) l c d st) ≡ answerOf r after
+    → Step.carry fs st (Step.execute (settingWith last (lentOf chain arguments program restartArguments) image) l c d st) ≡ answerOf r after
 
 -- it stands in its area, and its fields fit their bytes
 pub record InArea (chain program : List ℕ) (l : Location) (c : Ccw) : Type 0 where
@@ -44,10 +44,10 @@ abbrev pub Unchecked : (chain arguments program restartArguments st : List ℕ) 
 Unchecked chain arguments program restartArguments st l c k = Step.sound (lentOf chain arguments program restartArguments) l (length st) c k ≡ true
 
 -- what it then comes to
-abbrev pub Performs : (chain arguments program restartArguments image faults : List ℕ) → Location → Ccw → Command → Abstract.Drive → List ℕ → Answer → List ℕ → Type 0
-Performs chain arguments program restartArguments image faults l c k d st r after =
+abbrev pub Performs : ℕ → (chain arguments program restartArguments image faults : List ℕ) → Location → Ccw → Command → Abstract.Drive → List ℕ → Answer → List ℕ → Type 0
+Performs last chain arguments program restartArguments image faults l c k d st r after =
     (fs : List Fault) → faultsAt faults 0 ≡ some fs
-    → Step.carry fs st (Step.perform (settingWith (lentOf chain arguments program restartArguments) image) l c d st k) ≡ answerOf r after
+    → Step.carry fs st (Step.perform (settingWith last (lentOf chain arguments program restartArguments) image) l c d st k) ≡ answerOf r after
 
 -- ---- multitrack commands
 
@@ -67,5 +67,5 @@ singleTrack Unlisted = Unlisted
 -- where the command k is done, from the drive d: with a drive as its single-track form, or a unit check ends it
 abbrev pub ReachesFor : (image : List ℕ) → Ccw → Command → Abstract.Drive → Reached → Type 0
 ReachesFor image c k d r =
-    (p : Lent) (l : Location) (st : List ℕ) → Step.perform (settingWith p image) l c d st k
-    ≡ Step.onReached (reachedOf r) (Step.refuse l c d st) (λ e. Step.perform (settingWith p image) l c e st (singleTrack k))
+    (last : ℕ) (p : Lent) (l : Location) (st : List ℕ) → Step.perform (settingWith last p image) l c d st k
+    ≡ Step.onReached (reachedOf r) (Step.refuse l c d st) (λ e. Step.perform (settingWith last p image) l c e st (singleTrack k))

@@ -1,4 +1,5 @@
 // One command of a run.
+use address::Model;
 use channel::Ccw;
 use channel::Fetched;
 use channel::Location;
@@ -9,6 +10,7 @@ use drive::Command;
 use heads::Reached;
 use position::Drive;
 ghost use mathlib.Core.Path.{_≡_};
+ghost use Rattle.address.specs.Model.{lastOf};
 ghost use Rattle.drive.specs.Command.{commandOf};
 ghost use Rattle.position.specs.Standing.{driveOf, Standing};
 ghost use Rattle.location.specs.Low.{Low};
@@ -53,6 +55,7 @@ fn reach(image: &[u8], c: Ccw, k: Command, d: Drive) -> Reached
 
 // A command of one track, or a multitrack one as such from where it reaches; it makes no program check.
 fn perform_on_track(
+    m: Model,
     chain: &[u8],
     arguments: &[u8],
     program: &[u8],
@@ -73,21 +76,22 @@ fn perform_on_track(
     ensures { λ r.
         let before = now (storage .entry) in
         let after = now (storage .exit) in
-        ⌜ Performs (now (chain .entry)) (now (arguments .entry)) (now (program .entry)) (now («restart_arguments» .entry))
+        ⌜ Performs (lastOf m) (now (chain .entry)) (now (arguments .entry)) (now (program .entry)) (now («restart_arguments» .entry))
         (now (image .entry)) (now (faults .entry)) l c k (driveOf d) before r after ⌝ }
     ensures { λ r. ⌜ Kept (now (image .entry)) r ⌝ }
 {
     match k {
         Command::ReadHome => read_command::read_home(chain, program, image, l, c, d, storage),
-        Command::ReadRecord(m) => {
-            read_command::read_record(chain, program, image, faults, l, c, m, d, storage)
+        Command::ReadRecord(read) => {
+            read_command::read_record(chain, program, image, faults, l, c, read, d, storage)
         }
-        _ => moveless::perform(arguments, restart_arguments, image, l, c, k, d),
+        _ => moveless::perform(m, arguments, restart_arguments, image, l, c, k, d),
     }
 }
 
 // A command that makes no program check. What it calls has one caller, so that the compiler builds it in here.
 fn perform(
+    m: Model,
     chain: &[u8],
     arguments: &[u8],
     program: &[u8],
@@ -108,7 +112,7 @@ fn perform(
     ensures { λ r.
         let before = now (storage .entry) in
         let after = now (storage .exit) in
-        ⌜ Performs (now (chain .entry)) (now (arguments .entry)) (now (program .entry)) (now («restart_arguments» .entry))
+        ⌜ Performs (lastOf m) (now (chain .entry)) (now (arguments .entry)) (now (program .entry)) (now («restart_arguments» .entry))
         (now (image .entry)) (now (faults .entry)) l c k (driveOf d) before r after ⌝ }
     ensures { λ r. ⌜ Kept (now (image .entry)) r ⌝ }
 {
@@ -121,6 +125,7 @@ fn perform(
         }
         Reached::EndOfCylinder => command::refuse(Check::EndOfCylinder, l, c, d),
         Reached::Reaches(e) => perform_on_track(
+            m,
             chain,
             arguments,
             program,
@@ -138,6 +143,7 @@ fn perform(
 
 // The CCW c at l, with the drive and storage before it.
 fn execute(
+    m: Model,
     chain: &[u8],
     arguments: &[u8],
     program: &[u8],
@@ -155,7 +161,7 @@ fn execute(
     ensures { λ r.
         let before = now (storage .entry) in
         let after = now (storage .exit) in
-        ⌜ Executes (now (chain .entry)) (now (arguments .entry)) (now (program .entry)) (now («restart_arguments» .entry))
+        ⌜ Executes (lastOf m) (now (chain .entry)) (now (arguments .entry)) (now (program .entry)) (now («restart_arguments» .entry))
         (now (image .entry)) (now (faults .entry)) l c (driveOf d) before r after ⌝ }
     ensures { λ r. ⌜ Kept (now (image .entry)) r ⌝ }
 {
@@ -171,6 +177,7 @@ fn execute(
         return command::program_check(l, d);
     }
     perform(
+        m,
         chain,
         arguments,
         program,
@@ -187,6 +194,7 @@ fn execute(
 
 // One command of a run, from the state before it.
 pub fn step(
+    m: Model,
     chain: &[u8],
     arguments: &[u8],
     program: &[u8],
@@ -202,7 +210,7 @@ pub fn step(
     ensures { λ r.
         let before = now (storage .entry) in
         let after = now (storage .exit) in
-        ⌜ Steps (now (chain .entry)) (now (arguments .entry)) (now (program .entry)) (now («restart_arguments» .entry))
+        ⌜ Steps (lastOf m) (now (chain .entry)) (now (arguments .entry)) (now (program .entry)) (now («restart_arguments» .entry))
         (now (image .entry)) (now (faults .entry)) s before r after ⌝ }
     ensures { λ r. ⌜ Kept (now (image .entry)) r ⌝ }
 {
@@ -212,6 +220,7 @@ pub fn step(
     match channel::resolve(chain, program, last, at) {
         Fetched::Broken(l) => command::program_check(l, d),
         Fetched::Got(l, c) => execute(
+            m,
             chain,
             arguments,
             program,

@@ -17,6 +17,7 @@ use Rattle.text.specs.Text.{Puts, ascii}
 use Rattle.text.proofs.Written.{puts-then}
 use Rattle.questions.specs.declared.Question.{Question}
 use Rattle.questions.specs.declared.Question.the-variants as Question
+use Rattle.address.specs.declared.Model.the-variants.{One}
 use Rattle.recovery.specs.Report.{reportFrom}
 use Rattle.report.specs.declared.Report as Code
 use Rattle.report.specs.declared.Reported.{Reported}
@@ -62,7 +63,7 @@ long-report s {o} {w} h b =
 
 module _ (s : List ℕ) (p : Places) (o : Recovered) (st q a : List ℕ)
     (e : with o st q a
-    ≡ recoverCall (take (p .report - p .chain) (drop (p .chain) s)) (take (p .end - p .report) (drop (p .report) s))
+    ≡ recoverCall One (take (p .report - p .chain) (drop (p .chain) s)) (take (p .end - p .report) (drop (p .report) s))
     (take (length s - p .extent) (drop (p .extent) s)) (replicate 65536 0) (replicate 64 0) (replicate 16 0)) where
   recovered : with o st q a ≡ recoveryOf (partsIn s p)
   unfolding recoveryOf part

@@ -5,6 +5,7 @@ use lib.ListN.{replicate}
 use Rattle.base.specs.Choice.{opt}
 use Rattle.text.specs.Text.{ascii}
 use Rattle.questions.specs.declared.Question.the-variants as Question
+use Rattle.address.specs.declared.Model.the-variants.{One}
 use Rattle.recovery.specs.Report.{reportFrom}
 use Rattle.recovered.specs.declared.Recovered.{Recovered}
 use Rattle.recovered.specs.Applied.{Applied}
@@ -27,9 +28,9 @@ senseOf report = opt (reportFrom report) (replicate 24 0) (λ r. r .sense)
 unfoldable pub reportText : Recovered → (sense storage program restartArguments : List ℕ) → List ℕ
 reportText r sense st p a = senseLines sense ++ rowText sense ++ answerText r sense st p a
 
--- Recovery from the report, with storage of the greatest size. It begins as zeros, so that a byte which is corrected shows its pattern byte.
+-- Recovery from the report, on a pack of model 1, with storage of the greatest size. It begins as zeros, so that a byte which is corrected shows its pattern byte.
 unfoldable pub recoveryOf : Parts → Applied
-recoveryOf p = recoverCall (p .chain) (p .report) (p .extent) (replicate 65536 0) (replicate 64 0) (replicate 16 0)
+recoveryOf p = recoverCall One (p .chain) (p .report) (p .extent) (replicate 65536 0) (replicate 64 0) (replicate 16 0)
 
 -- the CCWs of the chain, as many as the longest chain has, then what recovery makes of the report
 unfoldable pub explained : Parts → List ℕ

@@ -1,4 +1,5 @@
 // The work of the program `explain` between its input and its output: the parts are found, recovery is asked, the lines are put.
+use address::Model;
 use explain_input::Found;
 use explain_input::Places;
 use questions::Question;
@@ -71,7 +72,7 @@ fn put_reported(
     )
 }
 
-// The text for the parts at their places. Storage and the restart areas begin as zeros.
+// The text for the parts at their places, on a pack of model 1. Storage and the restart areas begin as zeros.
 fn put_parts(input: &[u8], p: Places, out: &mut [u8]) -> usize
     requires { ⌜ Ordered p (length (now input)) ⌝ }
     requires { ⌜ room ≤ length (now out) ⌝ }
@@ -86,6 +87,7 @@ fn put_parts(input: &[u8], p: Places, out: &mut [u8]) -> usize
     let mut program = [0u8; 64];
     let mut restart_arguments = [0u8; 16];
     let r = recover::recover(
+        Model::One,
         &input[chain..report],
         &input[report..end],
         &input[extent..],

@@ -14,7 +14,9 @@ use Rattle.questions.specs.declared.Checked.{Checked}
 use Rattle.questions.specs.declared.Checked.the-variants.{Accepted, Refused}
 use Rattle.questions.specs.Areas.{imageFits, faultsFit}
 use Rattle.address.specs.declared.Address.{Address}
-use Rattle.address.specs.Order.{lastCylinder, same}
+use Rattle.address.specs.declared.Model.{Model}
+use Rattle.address.specs.Model.{lastOf}
+use Rattle.address.specs.Order.{same}
 use Rattle.pack.specs.Pack.{Track, packOf, recordIn}
 use Rattle.image.specs.Image.{wellFormed}
 
@@ -66,10 +68,10 @@ unfoldable pub soundFrom : List Track → List ℕ → ℕ → Bool
 soundFrom ts s at = opt (faultsAt s at) false (soundFaults ts)
 
 -- Questions 1, 2 and 3, for an image and a fault list.
-unfoldable pub faultsAnswer : List ℕ → List ℕ → Checked
-faultsAnswer image s =
+unfoldable pub faultsAnswer : Model → List ℕ → List ℕ → Checked
+faultsAnswer m image s =
     pick (imageFits (length image) && faultsFit (length s))
-    (pick (wellFormed lastCylinder image)
+    (pick (wellFormed (lastOf m) image)
     (pick (soundFrom (packOf image) s 0) Accepted (Refused Question.Faults))
     (Refused Question.Image))
     (Refused Question.Areas)

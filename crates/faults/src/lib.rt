@@ -1,6 +1,6 @@
 // The fault list: which record has which fault, and question 3.
 use address::Address;
-use address::LAST_CYLINDER;
+use address::Model;
 use base::FromEnd;
 use fields::Tagged;
 use pack::RecordAt;
@@ -143,8 +143,8 @@ pub fn sound_faults(image: &[u8], faults: &[u8]) -> bool
 }
 
 // Questions 1, 2 and 3 for an image and a fault list of any size.
-pub fn check_faults(image: &[u8], faults: &[u8]) -> Checked
-    ensures { λ r. ⌜ r ≡ faultsAnswer (now (image .entry)) (now (faults .entry)) ⌝ }
+pub fn check_faults(m: Model, image: &[u8], faults: &[u8]) -> Checked
+    ensures { λ r. ⌜ r ≡ faultsAnswer m (now (image .entry)) (now (faults .entry)) ⌝ }
 {
     if !questions::image_fits(image.len()) {
         return Checked::Refused(Question::Areas);
@@ -152,7 +152,7 @@ pub fn check_faults(image: &[u8], faults: &[u8]) -> Checked
     if !questions::faults_fit(faults.len()) {
         return Checked::Refused(Question::Areas);
     }
-    if !image::well_formed(image, LAST_CYLINDER) {
+    if !image::well_formed(m, image) {
         return Checked::Refused(Question::Image);
     }
     if sound_faults(image, faults) {

@@ -1,42 +1,50 @@
-// The calls for C and Rust: plain bytes and numbers in, document 01's numbers out. Each stands for a proved call and adds no rule.
+// The calls for C and Rust: plain bytes and numbers in, document 01's numbers out. Each stands for a proved call and adds no rule. Those that meet
+// a track address take the pack's model, 1 or 11; another number is refused by 1, with nothing changed.
+use address::Known;
 use questions::Checked;
 use questions::Question;
 use trial::Trial;
 ghost use mathlib.Core.Path.{_≡_};
 ghost use lib.ListN.{length};
 ghost use Rattle.questions.specs.Number.{answerOf};
-ghost use Rattle.address.specs.Within.{extentAnswer};
-ghost use Rattle.image.specs.Image.{imageAnswer};
-ghost use Rattle.faults.specs.Faults.{faultsAnswer};
-ghost use Rattle.trial.specs.Trial.{runCall, restartCall, TrialLow};
+ghost use Rattle.trial.specs.Trial.{TrialLow};
 ghost use Rattle.giruve.specs.Areas.{runAnswer, restartAnswer};
-ghost use Rattle.recover.specs.Recover.{recoverCall};
+ghost use Rattle.giruve.specs.Model.{imageAnswerBy, faultsAnswerBy, extentAnswerBy, runCallBy, restartCallBy, recoverCallBy};
 ghost use Rattle.giruve.specs.Run.{HandsOut, runHanding, runHanded};
 ghost use Rattle.giruve.specs.Recover.{recoveryHanding, recoveryHanded};
 ghost use Rattle.giruve.specs.Reading.{readingHanding, ReadingHandsOut};
 
 // Questions 1 and 2: 0, 1 or 2.
 #[no_mangle]
-pub extern "C" fn giruve_check_image(image: &[u8]) -> u8
-    ensures { λ r. ⌜ r ≡ answerOf (imageAnswer (now (image .entry))) ⌝ }
+pub extern "C" fn giruve_check_image(model: u8, image: &[u8]) -> u8
+    ensures { λ r. ⌜ r ≡ answerOf (imageAnswerBy model (now (image .entry))) ⌝ }
 {
-    questions::answer(image::check_image(image))
+    let Known::Model(m) = address::model_of(model) else {
+        return questions::number(Question::Areas);
+    };
+    questions::answer(image::check_image(m, image))
 }
 
 // Questions 1, 2 and 3: 0, 1, 2 or 3.
 #[no_mangle]
-pub extern "C" fn giruve_check_faults(image: &[u8], faults: &[u8]) -> u8
-    ensures { λ r. ⌜ r ≡ answerOf (faultsAnswer (now (image .entry)) (now (faults .entry))) ⌝ }
+pub extern "C" fn giruve_check_faults(model: u8, image: &[u8], faults: &[u8]) -> u8
+    ensures { λ r. ⌜ r ≡ answerOf (faultsAnswerBy model (now (image .entry)) (now (faults .entry))) ⌝ }
 {
-    questions::answer(faults::check_faults(image, faults))
+    let Known::Model(m) = address::model_of(model) else {
+        return questions::number(Question::Areas);
+    };
+    questions::answer(faults::check_faults(m, image, faults))
 }
 
 // Questions 1 and 5: 0, 1 or 5.
 #[no_mangle]
-pub extern "C" fn giruve_check_extent(extent: &[u8]) -> u8
-    ensures { λ r. ⌜ r ≡ answerOf (extentAnswer (now (extent .entry))) ⌝ }
+pub extern "C" fn giruve_check_extent(model: u8, extent: &[u8]) -> u8
+    ensures { λ r. ⌜ r ≡ answerOf (extentAnswerBy model (now (extent .entry))) ⌝ }
 {
-    questions::answer(address::check_extent(extent))
+    let Known::Model(m) = address::model_of(model) else {
+        return questions::number(Question::Areas);
+    };
+    questions::answer(address::check_extent(m, extent))
 }
 
 // Question 1 for a run, from the lengths of its areas and its command limit: 0 or 1.
@@ -94,6 +102,7 @@ fn hand_out(answer: &mut [u8], t: Trial) -> u8
 // A refusal leaves storage and answer as they were.
 #[no_mangle]
 pub extern "C" fn giruve_run(
+    model: u8,
     chain: &[u8],
     arguments: &[u8],
     storage: &mut [u8],
@@ -103,19 +112,23 @@ pub extern "C" fn giruve_run(
     answer: &mut [u8],
 ) -> u8
     ensures { λ r.
-        let called = runCall (now (chain .entry)) (now (arguments .entry)) (now (storage .entry)) (now (image .entry)) (now (faults .entry)) limit in
+        let called = runCallBy model (now (chain .entry)) (now (arguments .entry)) (now (storage .entry)) (now (image .entry)) (now (faults .entry)) limit in
         ⌜ runHanding r (now (answer .exit)) (now (storage .exit)) ≡ runHanded (now (answer .entry)) (now (storage .entry)) called ⌝ }
 {
     if answer.len() != ANSWER_LENGTH {
         return questions::number(Question::Areas);
     }
-    let t = trial::run(chain, arguments, storage, image, faults, limit);
+    let Known::Model(m) = address::model_of(model) else {
+        return questions::number(Question::Areas);
+    };
+    let t = trial::run(m, chain, arguments, storage, image, faults, limit);
     hand_out(answer, t)
 }
 
 // A run of a restart program, with its own limit; the same numbers.
 #[no_mangle]
 pub extern "C" fn giruve_run_restart(
+    model: u8,
     chain: &[u8],
     arguments: &[u8],
     program: &[u8],
@@ -126,14 +139,18 @@ pub extern "C" fn giruve_run_restart(
     answer: &mut [u8],
 ) -> u8
     ensures { λ r.
-        let called = restartCall (now (chain .entry)) (now (arguments .entry)) (now (program .entry)) (now («restart_arguments» .entry))
+        let called = restartCallBy model (now (chain .entry)) (now (arguments .entry)) (now (program .entry)) (now («restart_arguments» .entry))
         (now (storage .entry)) (now (image .entry)) (now (faults .entry)) in
         ⌜ runHanding r (now (answer .exit)) (now (storage .exit)) ≡ runHanded (now (answer .entry)) (now (storage .entry)) called ⌝ }
 {
     if answer.len() != ANSWER_LENGTH {
         return questions::number(Question::Areas);
     }
+    let Known::Model(m) = address::model_of(model) else {
+        return questions::number(Question::Areas);
+    };
     let t = trial::run_restart(
+        m,
         chain,
         arguments,
         program,
@@ -148,6 +165,7 @@ pub extern "C" fn giruve_run_restart(
 // Recovery from a report. An answer area is one of 10 bytes; returned is 0, or the refusing question's number.
 #[no_mangle]
 pub extern "C" fn giruve_recover(
+    model: u8,
     chain: &[u8],
     report: &[u8],
     extent: &[u8],
@@ -157,7 +175,7 @@ pub extern "C" fn giruve_recover(
     answer: &mut [u8],
 ) -> u8
     ensures { λ r.
-        let called = recoverCall (now (chain .entry)) (now (report .entry)) (now (extent .entry))
+        let called = recoverCallBy model (now (chain .entry)) (now (report .entry)) (now (extent .entry))
         (now (storage .entry)) (now (program .entry)) (now («restart_arguments» .entry)) in
         let after = recoveryHanding r (now (answer .exit)) (now (storage .exit)) (now (program .exit)) (now («restart_arguments» .exit)) in
         ⌜ after ≡ recoveryHanded (now (answer .entry)) (now (storage .entry)) (now (program .entry)) (now («restart_arguments» .entry)) called ⌝ }
@@ -165,13 +183,25 @@ pub extern "C" fn giruve_recover(
     if answer.len() != 10 {
         return questions::number(Question::Areas);
     }
-    let r = recover::recover(chain, report, extent, storage, program, restart_arguments);
+    let Known::Model(m) = address::model_of(model) else {
+        return questions::number(Question::Areas);
+    };
+    let r = recover::recover(
+        m,
+        chain,
+        report,
+        extent,
+        storage,
+        program,
+        restart_arguments,
+    );
     recovery_answer::put(answer, r)
 }
 
 // The whole reading. An answer area is one of 11 bytes; returned is 0 ended, 64 "limit", 65 "stopped", or the refusing question's number.
 #[no_mangle]
 pub extern "C" fn giruve_reading(
+    model: u8,
     chain: &[u8],
     arguments: &[u8],
     storage: &mut [u8],
@@ -186,13 +216,17 @@ pub extern "C" fn giruve_reading(
 ) -> u8
     ensures { λ r.
         let after = readingHanding r (now (answer .exit)) (now (storage .exit)) (now (program .exit)) (now («restart_arguments» .exit)) (now (list .exit)) in
-        ⌜ ReadingHandsOut (now (chain .entry)) (now (arguments .entry)) (now (storage .entry)) (now (image .entry)) (now (faults .entry))
+        ⌜ ReadingHandsOut model (now (chain .entry)) (now (arguments .entry)) (now (storage .entry)) (now (image .entry)) (now (faults .entry))
         (now (extent .entry)) limit (now (program .entry)) (now («restart_arguments» .entry)) (now (list .entry)) (now (answer .entry)) after ⌝ }
 {
     if answer.len() != 11 {
         return questions::number(Question::Areas);
     }
+    let Known::Model(m) = address::model_of(model) else {
+        return questions::number(Question::Areas);
+    };
     let o = whole_reading::read(
+        m,
         chain,
         arguments,
         storage,

@@ -11,6 +11,8 @@ use lib.ListN.{replicate}
 use Rattle.base.specs.Choice.{pick, opt}
 use Rattle.base.specs.Bytes.{part, two, three}
 use Rattle.base.specs.Bits.{bitOn}
+use Rattle.address.specs.declared.Model.the-variants.{One}
+use Rattle.address.specs.Model.{lastOf}
 use Rattle.address.specs.Order.{before, same, onPack}
 use Rattle.address.specs.Within.{within}
 use Rattle.pack.specs.Pack.{Track, trackIn}
@@ -53,7 +55,7 @@ track head =
 
 setting : Step.Setting
 setting = record {
-  last = 410;
+  last = lastOf One;
   pack = track 0 ∷ track 1 ∷ track 2 ∷ track 3 ∷ [];
   lent = record { chain = chain; arguments = arguments; program = []; restartArguments = [] };
 }
@@ -90,10 +92,10 @@ met = record {
 
 given : Recovery.Given
 given = record {
-  last = 410;
+  last = lastOf One;
   rows = rows;
   chain = chain;
-  extent = record { first = record { cylinder = 0; head = 0 }; last = record { cylinder = 0; head = 3 } };
+  extent = record { first = record { cylinder = 0; head = 0 }; last = record { cylinder = 0; head = 3 }; model = One };
 }
 
 -- tag 14 is the argument of the chain's seek

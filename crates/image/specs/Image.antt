@@ -11,7 +11,9 @@ use Rattle.questions.specs.declared.Checked.{Checked}
 use Rattle.questions.specs.declared.Checked.the-variants.{Accepted, Refused}
 use Rattle.questions.specs.Areas.{imageFits}
 use Rattle.address.specs.declared.Address.{Address}
-use Rattle.address.specs.Order.{lastCylinder, same, before, onPack}
+use Rattle.address.specs.declared.Model.{Model}
+use Rattle.address.specs.Model.{lastOf}
+use Rattle.address.specs.Order.{same, before, onPack}
 use Rattle.pack.specs.Pack.{Record, Track, decodeAt}
 use Rattle.image.specs.declared.Previous.{Previous}
 use Rattle.image.specs.declared.Previous.the-variants.{Nothing, Behind}
@@ -42,7 +44,7 @@ soundRecords a seen (x ∷ xs) = soundRecord a x && not (member (x .r) seen) && 
 
 -- ---- the tracks
 
--- "R = 0 first, then 1 to 255 others with distinct R", "cylinder 0 to 410, head 0 to 18";
+-- "R = 0 first, then 1 to 255 others with distinct R", on the pack: its cylinders, "head 0 to 18";
 -- 1 to 255 is the range of R, and a track with R0 alone is sound
 unfoldable pub soundTrack : ℕ → Track → Bool
 soundTrack last t = onPack last (t .at) && zeroFirst (t .records) && soundRecords (t .at) [] (t .records)
@@ -52,7 +54,7 @@ unfoldable pub follows : Previous → Address → Bool
 follows Nothing a = true
 follows (Behind b) a = before b a
 
--- "Tracks strictly ascending, cylinder 0 to 410, head 0 to 18. No tracks is allowed."
+-- "Tracks strictly ascending", each on the pack. "No tracks is allowed."
 unfoldable pub soundTracks : ℕ → Previous → List Track → Bool
 soundTracks last b [] = true
 soundTracks last b (t ∷ ts) = follows b (t .at) && soundTrack last t && soundTracks last (Behind (t .at)) ts
@@ -73,5 +75,5 @@ unfoldable pub wellFormed : ℕ → List ℕ → Bool
 wellFormed last s = wellFormedFrom last Nothing s 0
 
 -- Questions 1 and 2, for an image alone.
-unfoldable pub imageAnswer : List ℕ → Checked
-imageAnswer s = pick (imageFits (length s)) (pick (wellFormed lastCylinder s) Accepted (Refused Question.Image)) (Refused Question.Areas)
+unfoldable pub imageAnswer : Model → List ℕ → Checked
+imageAnswer m s = pick (imageFits (length s)) (pick (wellFormed (lastOf m) s) Accepted (Refused Question.Image)) (Refused Question.Areas)

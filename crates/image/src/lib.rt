@@ -1,6 +1,6 @@
 // Question 2: the image check, in one pass over the image and with nothing copied.
 use address::Address;
-use address::LAST_CYLINDER;
+use address::Model;
 use pack::HomeAt;
 use pack::Place;
 use pack::RecordAt;
@@ -9,6 +9,7 @@ use questions::Question;
 ghost use mathlib.Core.Path.{_≡_};
 ghost use Prim.Native.Nat.{_<_, _≤_};
 ghost use lib.ListN.{length};
+ghost use Rattle.address.specs.Model.{lastOf};
 ghost use Rattle.image.specs.Image.{follows, wellFormed, imageAnswer};
 ghost use Rattle.image.specs.Pass.{fitsIn, RecordsTell, TrackTells};
 
@@ -77,9 +78,9 @@ pub enum TrackEnd {
 }
 
 // The track at a place, behind another one.
-fn track_end(image: &[u8], at: usize, last: usize, b: Previous) -> TrackEnd
+fn track_end(m: Model, image: &[u8], at: usize, b: Previous) -> TrackEnd
     requires { ⌜ at < length (now image) ⌝ }
-    ensures { λ r. ⌜ TrackTells last b (now (image .entry)) at r ⌝ }
+    ensures { λ r. ⌜ TrackTells (lastOf m) b (now (image .entry)) at r ⌝ }
 {
     let HomeAt::Home { at: a, next } = pack::home_at(image, at) else {
         return TrackEnd::Faulty;
@@ -87,7 +88,7 @@ fn track_end(image: &[u8], at: usize, last: usize, b: Previous) -> TrackEnd
     if !may_follow(b, a) {
         return TrackEnd::Faulty;
     }
-    if !a.on_pack(last) {
+    if !a.on_pack(m) {
         return TrackEnd::Faulty;
     }
     let RecordAt::Located(p) = pack::record_at(image, next) else {
@@ -105,14 +106,14 @@ fn track_end(image: &[u8], at: usize, last: usize, b: Previous) -> TrackEnd
     TrackEnd::Track { at: a, next: end }
 }
 
-// Whether an image is well formed on a pack whose last cylinder is `last`.
-pub fn well_formed(image: &[u8], last: usize) -> bool
-    ensures { λ r. ⌜ r ≡ wellFormed last (now (image .entry)) ⌝ }
+// Whether an image is well formed, of a pack of this model.
+pub fn well_formed(m: Model, image: &[u8]) -> bool
+    ensures { λ r. ⌜ r ≡ wellFormed (lastOf m) (now (image .entry)) ⌝ }
 {
     let mut here = 0;
     let mut b = Previous::Nothing;
     while here < image.len() {
-        let TrackEnd::Track { at, next } = track_end(image, here, last, b) else {
+        let TrackEnd::Track { at, next } = track_end(m, image, here, b) else {
             return false;
         };
         b = Previous::Behind(at);
@@ -122,13 +123,13 @@ pub fn well_formed(image: &[u8], last: usize) -> bool
 }
 
 // Questions 1 and 2 for an image of any size.
-pub fn check_image(image: &[u8]) -> Checked
-    ensures { λ r. ⌜ r ≡ imageAnswer (now (image .entry)) ⌝ }
+pub fn check_image(m: Model, image: &[u8]) -> Checked
+    ensures { λ r. ⌜ r ≡ imageAnswer m (now (image .entry)) ⌝ }
 {
     if !questions::image_fits(image.len()) {
         return Checked::Refused(Question::Areas);
     }
-    if well_formed(image, LAST_CYLINDER) {
+    if well_formed(m, image) {
         return Checked::Accepted;
     }
     Checked::Refused(Question::Image)

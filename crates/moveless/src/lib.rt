@@ -1,4 +1,5 @@
 // Search ID equal, and whichever command moves no byte of storage.
+use address::Model;
 use channel::Ccw;
 use channel::Location;
 use command::Answer;
@@ -8,13 +9,14 @@ use position::Drive;
 use position::Examined;
 ghost use mathlib.Core.Path.{_≡_};
 ghost use mathlib.Core.Bool.{true};
+ghost use Rattle.address.specs.Model.{lastOf};
 ghost use Rattle.channel.specs.Fetch.{InBytes};
 ghost use Rattle.location.specs.Low.{Low};
 ghost use Rattle.drive.specs.declared.Command.the-variants as Commands;
 ghost use Rattle.drive.specs.Arguments.{ArgumentIn};
 ghost use Rattle.position.specs.Standing.{driveOf, Standing, searchPlan};
 ghost use Rattle.command.specs.Answer.{Kept, KeptBehind};
-ghost use Rattle.control.specs.Control.{Plans, Performs, moveless, argues};
+ghost use Rattle.control.specs.Control.{Plans, Performs, PerformsAlways, moveless, argues};
 
 // A search's answer, of what it examined on the drive d. An equal one skips a CCW.
 fn searched(x: Examined, l: Location, c: Ccw, d: Drive) -> Answer
@@ -42,7 +44,7 @@ fn search(
     requires { ⌜ Low l ⌝ }
     requires { ⌜ InBytes c ⌝ }
     requires { ⌜ ArgumentIn (now arguments) (now «restart_arguments») l c ⌝ }
-    ensures { λ r. ⌜ Performs (now (arguments .entry)) (now («restart_arguments» .entry)) (now (image .entry)) l c Commands.SearchId (driveOf d) r ⌝ }
+    ensures { λ r. ⌜ PerformsAlways (now (arguments .entry)) (now («restart_arguments» .entry)) (now (image .entry)) l c Commands.SearchId (driveOf d) r ⌝ }
     ensures { λ r. ⌜ Kept (now (image .entry)) r ⌝ }
 {
     if !control::counted(c, 5) {
@@ -58,6 +60,7 @@ fn search(
 
 // A command that moves no byte, which makes no program check.
 pub fn perform(
+    m: Model,
     arguments: &[u8],
     restart_arguments: &[u8],
     image: &[u8],
@@ -71,12 +74,12 @@ pub fn perform(
     requires { ⌜ InBytes c ⌝ }
     requires { ⌜ moveless k ≡ true ⌝ }
     requires { ⌜ (argues k ≡ true → ArgumentIn (now arguments) (now «restart_arguments») l c) ⌝ }
-    ensures { λ r. ⌜ Performs (now (arguments .entry)) (now («restart_arguments» .entry)) (now (image .entry)) l c k (driveOf d) r ⌝ }
+    ensures { λ r. ⌜ Performs (lastOf m) (now (arguments .entry)) (now («restart_arguments» .entry)) (now (image .entry)) l c k (driveOf d) r ⌝ }
     ensures { λ r. ⌜ Kept (now (image .entry)) r ⌝ }
 {
     match k {
         Command::NoOperation => control::no_operation(image, l, c, d),
-        Command::Seek => control::seek(arguments, restart_arguments, image, l, c, d),
+        Command::Seek => control::seek(m, arguments, restart_arguments, image, l, c, d),
         Command::SetMask => control::set_mask(arguments, restart_arguments, image, l, c, d),
         Command::SetSector => control::set_sector(arguments, restart_arguments, image, l, c, d),
         Command::SearchId => search(arguments, restart_arguments, image, l, c, d),

@@ -13,6 +13,8 @@ use lib.ListN.{replicate}
 use Rattle.base.specs.Choice.{pick, opt}
 use Rattle.base.specs.Bytes.{two, three}
 use Rattle.base.specs.Bits.{bitOn}
+use Rattle.address.specs.declared.Model.the-variants.{One}
+use Rattle.address.specs.Model.{lastOf}
 use Rattle.address.specs.Order.{before, onPack}
 use Rattle.address.specs.Within.{within}
 use Rattle.channel.specs.declared.Ccw.{Ccw}
@@ -36,10 +38,10 @@ chain = ccwBytes 0x06 0 0x80 4 ++ ticTo 16 ++ ccwBytes 0x00 8 0 6
 
 given : Recovery.Given
 given = record {
-  last = 410;
+  last = lastOf One;
   rows = [];
   chain = chain;
-  extent = record { first = record { cylinder = 0; head = 0 }; last = record { cylinder = 2; head = 0 } };
+  extent = record { first = record { cylinder = 0; head = 0 }; last = record { cylinder = 2; head = 0 }; model = One };
 }
 
 -- three bytes were read: the first CCW has one left

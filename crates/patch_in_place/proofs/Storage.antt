@@ -7,6 +7,8 @@ use mathlib.Core.List.{List}
 use lib.ListN.{length, getD}
 use Rattle.base.proofs.Choice.{both, either-if, never}
 use Rattle.questions.specs.declared.Question.{Question}
+use Rattle.address.specs.declared.Model.{Model}
+use Rattle.address.specs.Model.{modelOf}
 use Rattle.address.specs.Within.{extentOf}
 use Rattle.recovery.specs.Table.{rows}
 use Rattle.recovery.specs.Report.{Report, reportFrom}
@@ -19,8 +21,9 @@ use Rattle.recovered.specs.declared.Recovered.the-variants.{Refused, ActionOne,
 use Rattle.recovered.specs.Applied.{Applied, applied, givenOf}
 use Rattle.recover.specs.Recover.{recoverCall, refusal}
 use Rattle.recovery_answer.specs.RecoveryAnswer.{recoveryReturn, recoveryAnswerAfter}
+use Rattle.giruve.specs.Model.{recoverCallBy}
 use Rattle.giruve.specs.Recover.{RecoveryHanded, recoveryHanding, recoveryHanded}
-use Rattle.patch_in_place.specs.Storage.{ReportStayed, answerCorrects, CallPatchesInPlace, handedCorrects, GiruveRecoverPatchesInPlace}
+use Rattle.patch_in_place.specs.Storage.{ReportStayed, NumberStayed, answerCorrects, CallPatchesInPlace, handedCorrects, GiruveRecoverPatchesInPlace}
 
 -- ---- an answer of the definitions, as the code has it
 
@@ -52,26 +55,26 @@ applied-corrects (Recovery.restarts Recovery.eleven q b s) st p a = refl
 
 -- ---- the call
 
-module _ (chain report extent st : List ℕ) where
+module _ (m : Model) (chain report extent st : List ℕ) where
   abbrev Keeps : Applied → Type 0
-  Keeps out = Patched (ReportStayed chain report extent st) (answerCorrects (out .answer)) st (out .storage)
+  Keeps out = Patched (ReportStayed m chain report extent st) (answerCorrects (out .answer)) st (out .storage)
 
   refusal-keeps : (q : Question) (p a : List ℕ) → Keeps (refusal q st p a)
   unfolding refusal
-  refusal-keeps q p a = unpatched (ReportStayed chain report extent st) (answerCorrects (Refused q)) st st refl
+  refusal-keeps q p a = unpatched (ReportStayed m chain report extent st) (answerCorrects (Refused q)) st st refl
 
-  answer-keeps : (p a : List ℕ) (r : Report) → reportFrom report ≡ some r → Keeps (applied (Recovery.recover (givenOf rows chain (extentOf extent)) r st) st p a)
+  answer-keeps : (p a : List ℕ) (r : Report) → reportFrom report ≡ some r → Keeps (applied (Recovery.recover (givenOf rows chain (extentOf m extent)) r st) st p a)
   answer-keeps p a r e =
-      let q = Recovery.recover (givenOf rows chain (extentOf extent)) r st in
-      let m = patches-in-place (givenOf rows chain (extentOf extent)) r st in
+      let q = Recovery.recover (givenOf rows chain (extentOf m extent)) r st in
+      let k = patches-in-place (givenOf rows chain (extentOf m extent)) r st in
       let s = applied-storage q st p a in
       record {
-        as-long = ap length (sym s) ∙ m .as-long;
-        kept = λ b h. ap (λ (x : List ℕ). getD x b 0) (sym s) ∙ m .kept b (λ t. h (record { told = r; is = e; stayed = t }));
-        untouched = λ n. sym s ∙ m .untouched (applied-corrects q st p a ∙ n);
+        as-long = ap length (sym s) ∙ k .as-long;
+        kept = λ b h. ap (λ (x : List ℕ). getD x b 0) (sym s) ∙ k .kept b (λ t. h (record { told = r; is = e; stayed = t }));
+        untouched = λ n. sym s ∙ k .untouched (applied-corrects q st p a ∙ n);
       }
 
-  call-keeps : (p a : List ℕ) → Keeps (recoverCall chain report extent st p a)
+  call-keeps : (p a : List ℕ) → Keeps (recoverCall m chain report extent st p a)
   unfolding recoverCall
   call-keeps p a =
       both Keeps _
@@ -79,7 +82,23 @@ module _ (chain report extent st : List ℕ) where
       (refusal-keeps _ p a)
 
 pub call-patches-in-place : CallPatchesInPlace
-call-patches-in-place chain report extent st p a out e = subst (Keeps chain report extent st) (sym e) (call-keeps chain report extent st p a)
+call-patches-in-place m chain report extent st p a out e = subst (Keeps m chain report extent st) (sym e) (call-keeps m chain report extent st p a)
+
+-- ---- by the number of a model
+
+module _ (model : ℕ) (chain report extent st : List ℕ) where
+  abbrev NumberKeeps : Applied → Type 0
+  NumberKeeps out = Patched (NumberStayed model chain report extent st) (answerCorrects (out .answer)) st (out .storage)
+
+  of-model : (p a : List ℕ) (m : Model) → modelOf model ≡ some m → NumberKeeps (recoverCall m chain report extent st p a)
+  of-model p a m e =
+      let k = call-keeps m chain report extent st p a in
+      record { as-long = k .as-long; kept = λ b h. k .kept b (λ t. h (record { of = m; known = e; stayed = t })); untouched = k .untouched }
+
+  number-keeps : (p a : List ℕ) → NumberKeeps (recoverCallBy model chain report extent st p a)
+  unfolding recoverCallBy refusal
+  number-keeps p a =
+      either-if NumberKeeps _ (λ e. unpatched (NumberStayed model chain report extent st) _ st st refl) (of-model p a)
 
 -- ---- the call for C
 
@@ -99,14 +118,14 @@ handed-corrects b st p a (Restart Ten) e = refl
 handed-corrects b st p a (Restart TenA) e = refl
 handed-corrects b st p a (Restart Eleven) e = refl
 
-abbrev HandedKeeps : (chain report extent st : List ℕ) → RecoveryHanded → Type 0
-HandedKeeps chain report extent st h = Patched (ReportStayed chain report extent st) (handedCorrects h) st (h .storage)
+abbrev HandedKeeps : (model : ℕ) (chain report extent st : List ℕ) → RecoveryHanded → Type 0
+HandedKeeps model chain report extent st h = Patched (NumberStayed model chain report extent st) (handedCorrects h) st (h .storage)
 
 pub giruve-recover-patches-in-place : GiruveRecoverPatchesInPlace
 unfolding recoveryHanded
-giruve-recover-patches-in-place chain report extent st p a answer h e =
-    let call = call-keeps chain report extent st p a in
-    subst (HandedKeeps chain report extent st) (sym e)
-    (both (HandedKeeps chain report extent st) _
+giruve-recover-patches-in-place model chain report extent st p a answer h e =
+    let call = number-keeps model chain report extent st p a in
+    subst (HandedKeeps model chain report extent st) (sym e)
+    (both (HandedKeeps model chain report extent st) _
     (record { as-long = call .as-long; kept = call .kept; untouched = λ n. call .untouched (handed-corrects answer _ _ _ _ n) })
-    (unpatched (ReportStayed chain report extent st) _ st st refl))
+    (unpatched (NumberStayed model chain report extent st) _ st st refl))

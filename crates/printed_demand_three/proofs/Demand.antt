@@ -35,9 +35,9 @@ module _ {g : Lending} {s : List ℕ} (i : InputOf g s) where
 
   -- the program prints the lines of the call's conclusion
   called : printed s
-      ≡ shown (readingCall (g .chain) (g .arguments) (g .storage) (g .image) (g .faultList) (g .extent) (g .limit) (zeros .program) (zeros .restartArguments) (zeros .list))
+      ≡ shown (readingCall (g .model) (g .chain) (g .arguments) (g .storage) (g .image) (g .faultList) (g .extent) (g .limit) (zeros .program) (zeros .restartArguments) (zeros .list))
   unfolding printed textOf answered readingOf opt
-  called = rw (i .parts, i .storage, i .limit)
+  called = rw (i .parts, i .storage, i .limit, i .model)
 
 pub printed-keeps-demand-three : PrintedKeepsDemandThree
 printed-keeps-demand-three s g e i begins provided =

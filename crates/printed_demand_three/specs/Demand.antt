@@ -5,6 +5,7 @@ use mathlib.Core.Path.{_≡_}
 use mathlib.Core.Option.{some}
 use mathlib.Core.List.{List, _++_}
 use lib.ListN.{replicate}
+use Rattle.address.specs.declared.Model.the-variants.{One}
 use Rattle.drive.specs.Step.{End}
 use Rattle.demand_three.specs.Demand.{Lending, Begins, Provided, endOf, LikeFaultless}
 use Rattle.reading_runs.specs.declared.How.the-variants.{Ended}
@@ -19,6 +20,8 @@ pub record InputOf (g : Lending) (s : List ℕ) : Type 0 where
   pub parts : partsOf s ≡ some (record { chain = g .chain; arguments = g .arguments; extent = g .extent; faults = g .faultList; image = g .image })
   pub storage : g .storage ≡ replicate 4096 0
   pub limit : g .limit ≡ 4096
+  -- "The program `reading` stays with model 1"
+  pub model : g .model ≡ One
 
 -- What demand 3 says of a printed text; the faultless run ends with e.
 pub record PrintedLikeFaultless (g : Lending) (e : End) (text : List ℕ) : Type 0 where

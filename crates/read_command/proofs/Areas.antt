@@ -17,11 +17,9 @@ use borrow.Author.Tests.{eq-eqb, ne-eqb, eqb-false}
 use Rattle.base.specs.Choice.{pick, opt}
 use Rattle.base.specs.Bytes.{two}
 use Rattle.base.proofs.Choice.{pick-true, pick-false, split}
-use Rattle.address.specs.Order.{lastCylinder}
 use Rattle.pack.specs.declared.Place.{Place}
 use Rattle.pack.specs.Pack.{Record, Track, packOf, trackIn}
 use Rattle.pack.specs.Places.{recordFrom}
-use Rattle.image.specs.Image.{wellFormed}
 use Rattle.image.proofs.Sound.{track-sound}
 use Rattle.faults.specs.declared.Listed.{Listed}
 use Rattle.faults.specs.declared.FaultAt.{FaultAt}
@@ -40,7 +38,7 @@ use Rattle.position.specs.declared.Taken.the-variants.{Takes, Nothing}
 use Rattle.position.specs.Standing.{driveOf, TakesFor}
 use Rattle.command.specs.declared.Answer.{Answer}
 use Rattle.command.specs.Answer.{answerOf, Answers}
-use Rattle.read_command.specs.Reads.{FaultTaken, FaultsInside, Ends, Carries, ReadsFaulted, ReadsBytes, planOf, recordPlan, Homes}
+use Rattle.read_command.specs.Reads.{Formed, FaultTaken, FaultsInside, Ends, Carries, ReadsFaulted, ReadsBytes, planOf, recordPlan, Homes}
 
 same-name : (fs : List Fault) (y : Record) (x : Place) (o : Option Fault) → y .at ≡ x .at → y .r ≡ x .r → naming fs (x .at) (x .r) ≡ o → naming fs (y .at) (y .r) ≡ o
 same-name fs y x o a b e = ap₂ (naming fs) a b ∙ e
@@ -131,9 +129,9 @@ module _ (chain program image : List ℕ) (l : Location) (c : Ccw) (d : Abstract
   unfolding Step.carry Step.planHome Step.refuse opt
   home-none e h = λ p fs u v. rw e (h st)
 
-  pub home-read : (after : List ℕ) (t : Track) (e : Abstract.Drive) → wellFormed lastCylinder image ≡ true → trackIn (packOf image) (d .at) ≡ some t
+  pub home-read : (after : List ℕ) (t : Track) (e : Abstract.Drive) → Formed image → trackIn (packOf image) (d .at) ≡ some t
       → e ≡ Abstract.atIndex (d .at) (d .mask) → Ends chain program l c 5 st (Step.settled (homeBytes d) e st) r after → Homes chain program l c d image st r after
   unfolding Step.carry Step.planHome Step.planTransfer Step.transferred opt homeAddress addressBytes two
   home-read after t e whole there f h = λ p fs u v.
-      let at = track-sound lastCylinder image (d .at) t whole there .1 in
+      let at = track-sound _ image (d .at) t (whole .1) there .1 in
       rw (there, at, ← f) (h p u v)

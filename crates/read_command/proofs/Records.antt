@@ -16,11 +16,11 @@ use Rattle.base.specs.Bytes.{part}
 use Rattle.base.proofs.Choice.{and-right}
 use Rattle.base.proofs.Bytes.{length-part}
 use Rattle.address.specs.declared.Address.{Address}
-use Rattle.address.specs.Order.{lastCylinder, onPack}
+use Rattle.address.specs.Order.{onPack}
 use Rattle.pack.specs.declared.Place.{Place}
 use Rattle.pack.specs.Pack.{Record, Track, packOf, trackIn, numbered, recordIn}
 use Rattle.pack.specs.Places.{recordFrom}
-use Rattle.image.specs.Image.{zeroFirst, soundRecords, soundTrack, wellFormed}
+use Rattle.image.specs.Image.{zeroFirst, soundRecords, soundTrack}
 use Rattle.image.proofs.Sound.{track-sound, RecordSays, record-says, number-finds}
 use Rattle.faults.specs.Faults.{Fault, naming, soundFaults}
 use Rattle.faults.proofs.Naming.{named-sound, Says, says}
@@ -32,7 +32,7 @@ use Rattle.read_end.specs.ReadEnd.{PlaceLow}
 use Rattle.read_bytes.specs.Bytes.{AreBytes, Counted, from, to, ReadsRecord}
 use Rattle.read_bytes.proofs.Counted.{counted}
 use Rattle.read_bytes.proofs.Parts.{bytes-part, part-inside, part-short}
-use Rattle.read_command.specs.Reads.{Begun, Lies, FaultsInside}
+use Rattle.read_command.specs.Reads.{Formed, Begun, Lies, FaultsInside}
 
 -- the data are in the bytes of a read that takes them
 body-inside : (k : Read) (y : Record) → k .datas ≡ true → length (y .body) ≤ length (bytesOf k y)
@@ -45,7 +45,7 @@ in-track : (ts : List Track) (a d : Address) (r : ℕ) (t : Track) (z : Record) 
 unfolding recordIn opt
 in-track ts a d r t z e h g = rw (e, h) g
 
-module _ (image : List ℕ) (x : Place) (whole : wellFormed lastCylinder image ≡ true) (lies : Lies image x) where
+module _ (image : List ℕ) (x : Place) (whole : Formed image) (lies : Lies image x) where
   abbrev y : Record
   y = recordFrom image x
 
@@ -55,11 +55,11 @@ module _ (image : List ℕ) (x : Place) (whole : wellFormed lastCylinder image �
   records-sound : soundRecords (b .track .at) [] (b .track .records) ≡ true
   unfolding soundTrack
   records-sound =
-      let t = track-sound lastCylinder image (b .address) (b .track) whole (b .there) in
-      and-right (onPack lastCylinder (b .track .at) && zeroFirst (b .track .records)) _ (t .0)
+      let t = track-sound _ image (b .address) (b .track) (whole .1) (b .there) in
+      and-right (onPack (whole .0) (b .track .at) && zeroFirst (b .track .records)) _ (t .0)
 
   on-track : b .track .at ≡ b .address
-  on-track = track-sound lastCylinder image (b .address) (b .track) whole (b .there) .1
+  on-track = track-sound _ image (b .address) (b .track) (whole .1) (b .there) .1
 
   record-tells : RecordSays (b .track .at) y
   record-tells = rw (b .is) at (record-says (b .track .at) (b .track .records) records-sound (b .place) noRecord (b .inside))

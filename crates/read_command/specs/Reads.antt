@@ -5,7 +5,6 @@ use mathlib.Core.Bool.{true}
 use mathlib.Core.Option.{some}
 use mathlib.Core.List.{List}
 use lib.ListN.{length}
-use Rattle.address.specs.Order.{lastCylinder}
 use Rattle.pack.specs.declared.Place.{Place}
 use Rattle.pack.specs.Pack.{Record, packOf}
 use Rattle.pack.specs.declared.RecordAt.the-variants.{Located}
@@ -32,10 +31,14 @@ use Rattle.command.specs.Answer.{answerOf}
 abbrev pub Short : (chain program : List ℕ) → Type 0
 Short chain program = (length chain ≤ 2048) × (length program ≤ 64)
 
+-- well formed, as the image of a pack with some last cylinder: reads need no more
+abbrev pub Formed : List ℕ → Type 0
+Formed image = (last : ℕ) × (wellFormed last image ≡ true)
+
 -- What questions 1, 2 and 3 found.
 pub record Begun (chain program image faults : List ℕ) : Type 0 where
   pub short : Short chain program
-  pub whole : wellFormed lastCylinder image ≡ true
+  pub whole : Formed image
   pub listed : (fs : List Fault) × (faultsAt faults 0 ≡ some fs) × (soundFaults (packOf image) fs ≡ true)
 
 -- a read may use it

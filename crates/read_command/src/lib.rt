@@ -10,12 +10,10 @@ use pack::Place;
 use position::Drive;
 use position::Taken;
 ghost use mathlib.Core.Path.{_≡_};
-ghost use mathlib.Core.Bool.{true, _&&_};
+ghost use mathlib.Core.Bool.{_&&_};
 ghost use Prim.Native.Nat.{_≤_};
 ghost use lib.Dec.{eqb};
 ghost use lib.ListN.{length, take};
-ghost use Rattle.address.specs.Order.{lastCylinder};
-ghost use Rattle.image.specs.Image.{wellFormed};
 ghost use Rattle.faults.specs.FaultAt.{faultFrom};
 ghost use Rattle.pack.specs.Places.{recordFrom};
 ghost use Rattle.drive.specs.Step as Step;
@@ -23,7 +21,7 @@ ghost use Rattle.position.specs.Standing.{driveOf, Standing};
 ghost use Rattle.command.specs.Answer.{Kept, KeptWith, KeptAlways};
 ghost use Rattle.read_bytes.specs.Bytes.{ReadsRecord};
 ghost use Rattle.read_end.specs.ReadEnd.{PlaceLow};
-ghost use Rattle.read_command.specs.Reads.{Begun, Ready, Lies, FaultTaken, FaultsInside, Ends, Carries, ReadsFaulted, ReadsBytes, planOf, recordPlan, Homes};
+ghost use Rattle.read_command.specs.Reads.{Formed, Begun, Ready, Lies, FaultTaken, FaultsInside, Ends, Carries, ReadsFaulted, ReadsBytes, planOf, recordPlan, Homes};
 
 // A read without fault, with the drive behind it. It has one caller, so that the compiler builds it in there.
 fn plain(
@@ -243,7 +241,7 @@ pub fn read_home(
     storage: &mut [u8],
 ) -> Answer
     requires { ⌜ Ready (now chain) (now program) (now storage) l c ⌝ }
-    requires { ⌜ wellFormed lastCylinder (now image) ≡ true ⌝ }
+    requires { ⌜ Formed (now image) ⌝ }
     requires { ⌜ Standing (now image) d ⌝ }
     ensures { λ r. ⌜ Homes (now (chain .entry)) (now (program .entry)) l c (driveOf d) (now (image .entry)) (now (storage .entry)) r (now (storage .exit)) ⌝ }
     ensures { λ r. ⌜ Kept (now (image .entry)) r ⌝ }

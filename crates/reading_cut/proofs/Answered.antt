@@ -65,7 +65,7 @@ pub told : (k : Cut) (first : ℕ) → first ≡ addressOf (k .first)
       tries = 0;
     })
 unfolding reportOf cutSense addressBytes Bytes.two Bytes.three Recovery.userTrack Recovery.reachedHead opt
-told k first e = λ st.
+told k first e = λ last st.
     let cut = cutOf k st in
     record {
       sense = record {

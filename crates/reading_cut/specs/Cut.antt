@@ -38,9 +38,9 @@ lentAreas st p a l = record { storage = st; program = p; restartArguments = a; l
 
 -- ---- what it comes to
 
--- what the report of a cut tells
+-- what the report of a cut tells, on every pack: it has no seek argument
 abbrev pub CutTells : Cut → Told → Type 0
-CutTells k t = (st : List ℕ) → Tells (reportOf (cutOf k st)) t
+CutTells k t = (last : ℕ) (st : List ℕ) → Tells last (reportOf (cutOf k st)) t
 
 -- recovery by the report of a cut
 abbrev pub RecoversCut : (chain : List ℕ) → Extent → Cut → (st p a : List ℕ) → Applied → Type 0

@@ -14,6 +14,7 @@ use lib.ListN.{length, length-append}
 use Rattle.questions.specs.Areas.{restartLimit}
 use Rattle.faults.specs.Faults.{Fault, faultsAt}
 use Rattle.address.specs.declared.Extent.{Extent}
+use Rattle.address.specs.Model.{lastOf}
 use Rattle.abstract_machine.specs.Machine.{Result}
 use Rattle.abstract_machine.specs.Reading as Reading
 use Rattle.abstract_machine.specs.Reading.{Log}
@@ -93,7 +94,7 @@ more-left n m h ne = omega arith
 
 module _ (chain arguments image faults : List ℕ) (x : Extent) (n : ℕ) (first : Ran) (z : Areas) where
   abbrev rest : List Fault → ℕ → Log Entry Restarted → Ran → List ℕ → Whole
-  rest fs k g r st = readOn fs (toldOf chain arguments image) x k g (ranOf r st)
+  rest fs k g r st = readOn fs (toldOf (lastOf (x .model)) chain arguments image) x k g (ranOf r st)
 
   abbrev pub Onward : ℕ → Ran → Areas → Type 0
   Onward made r y =
@@ -171,7 +172,7 @@ module _ (chain arguments image faults : List ℕ) (x : Extent) (n : ℕ) (first
             ∙ ap shown (sym (some-left fs ∙ reading-stop _ _ _ (n - (made + 1)) (o .0) _ s e)))
 
         pub on-again : (u : Areas) → AfterCut chain x k lentTo Again u
-            → (r : Ran) (after : List ℕ) → Runs chain arguments (u .program) (u .restartArguments) image faults restartLimit (Location.Restart 0) (u .storage) r after
+            → (r : Ran) (after : List ℕ) → Runs (lastOf (x .model)) chain arguments (u .program) (u .restartArguments) image faults restartLimit (Location.Restart 0) (u .storage) r after
             → Onward (made + 1) r (lentAreas after (u .program) (u .restartArguments) (homeAt made (y .list) (u .list)))
         unfolding Reading.noted givenIn restartedRun restartedIn
         on-again u (t, e, q) r after runs =
@@ -180,5 +181,5 @@ module _ (chain arguments image faults : List ℕ) (x : Extent) (n : ℕ) (first
               logged-restart z (o .0) made y (o .1) t _ (part-noted made (y .list) (u .list) t q) b refl refl,
               λ fs l.
                   o .2 fs l ∙ some-left fs ∙ reading-restart _ _ _ (n - (made + 1)) (o .0) _ t b e
-                  ∙ ap (λ (m : Result Limit Step.End Step.Cut). readOn fs (toldOf chain arguments image) x (n - (made + 1)) (record { made = o .0 .made ++ t ∷ []; built = o .0 .built ++ b ∷ [] }) m) (runs fs l),
+                  ∙ ap (λ (m : Result Limit Step.End Step.Cut). readOn fs (toldOf (lastOf (x .model)) chain arguments image) x (n - (made + 1)) (record { made = o .0 .made ++ t ∷ []; built = o .0 .built ++ b ∷ [] }) m) (runs fs l),
             )

@@ -5,6 +5,7 @@ use mathlib.Core.Option.{some}
 use mathlib.Core.List.{List, []}
 use Rattle.faults.specs.Faults.{Fault, faultsAt}
 use Rattle.address.specs.declared.Extent.{Extent}
+use Rattle.address.specs.Model.{lastOf}
 use Rattle.abstract_machine.specs.Machine.{Result}
 use Rattle.abstract_machine.specs.Reading.{Log, reading}
 use Rattle.drive.specs.Step as Step
@@ -19,9 +20,9 @@ use Rattle.reading_runs.specs.declared.Over.{Over}
 use Rattle.reading_runs.specs.declared.Outcome.the-variants as Outcome
 use Rattle.reading_runs.specs.Conclusion.{leaving, concluded}
 
--- what a run of the chain is told
-abbrev pub toldOf : (chain arguments image : List ℕ) → Step.Setting
-toldOf chain arguments image = settingWith (lentOf chain arguments [] []) image
+-- what a run of the chain is told, on a pack with this last cylinder
+abbrev pub toldOf : ℕ → (chain arguments image : List ℕ) → Step.Setting
+toldOf last chain arguments image = settingWith last (lentOf chain arguments [] []) image
 
 -- no recovery made yet, and no restart built
 abbrev pub noLog : Log Entry Restarted
@@ -36,4 +37,4 @@ abbrev pub ReadsOn : (chain arguments image faults : List ℕ) → Extent → �
 ReadsOn chain arguments image faults x n first z o y =
     (fs : List Fault) → faultsAt faults 0 ≡ some fs
     → leaving (Outcome.Over o) (y .storage) (y .program) (y .restartArguments) (y .list)
-    ≡ concluded (readOn fs (toldOf chain arguments image) x n noLog (ranOf first (z .storage))) (z .program) (z .restartArguments) (z .list)
+    ≡ concluded (readOn fs (toldOf (lastOf (x .model)) chain arguments image) x n noLog (ranOf first (z .storage))) (z .program) (z .restartArguments) (z .list)

@@ -70,8 +70,8 @@ pub fn read_on(
                     how: How::Ended,
                 };
             }
-            Ran::Limited(m) => {
-                let w = m.csw;
+            Ran::Limited(out) => {
+                let w = out.csw;
                 return Over {
                     csw: w,
                     made: made,
@@ -97,7 +97,9 @@ pub fn read_on(
                     &mut list[made * 6..],
                 ) {
                     Went::Again => {
+                        let m = x.model;
                         ran = trial::run_from(
+                            m,
                             chain,
                             arguments,
                             program,

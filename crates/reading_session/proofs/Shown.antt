@@ -12,6 +12,7 @@ use Rattle.base.specs.Bytes.{part}
 use Rattle.base.proofs.Bytes.{to-end}
 use Rattle.text.specs.Text.{Puts}
 use Rattle.questions.specs.declared.Question.the-variants as Question
+use Rattle.address.specs.declared.Model.the-variants.{One}
 use Rattle.reading_runs.specs.declared.Outcome.{Outcome}
 use Rattle.reading_runs.specs.declared.Outcome.the-variants.{Refused}
 use Rattle.reading_runs.specs.Conclusion.{Conclusion, leaving}
@@ -28,7 +29,7 @@ use Rattle.reading_session.specs.Session.{readingOf, shown, answered, te
 
 module _ (s st st′ p′ a′ l′ : List ℕ) (p : Places) (r : Outcome)
     (e : leaving r st′ p′ a′ l′
-    ≡ readingCall (take (p .second - p .chain) (drop (p .chain) s)) (take (p .third - p .arguments) (drop (p .arguments) s)) st
+    ≡ readingCall One (take (p .second - p .chain) (drop (p .chain) s)) (take (p .third - p .arguments) (drop (p .arguments) s)) st
     (take (length s - p .image) (drop (p .image) s)) (take (p .image - p .faults) (drop (p .faults) s))
     (take (p .faults - p .extent) (drop (p .extent) s)) 4096 (replicate 64 0) (replicate 16 0) (replicate 24576 0)) where
   read-is : leaving r st′ p′ a′ l′ ≡ readingOf (partsIn s p) st

@@ -1,4 +1,5 @@
 // The program's work between its input and its output: the parts are found, the reading is done, the lines are put.
+use address::Model;
 use questions::Question;
 use reading_input::Found;
 use reading_input::Places;
@@ -29,6 +30,7 @@ fn read_parts(input: &[u8], p: Places, storage: &mut [u8], out: &mut [u8]) -> us
     let mut restart_arguments = [0u8; 16];
     let mut list = [0u8; 24576];
     let r = whole_reading::read(
+        Model::One,
         &input[chain..second],
         &input[arguments..third],
         storage,

@@ -1,9 +1,10 @@
 -- Recovery as a call, from the tests that the code makes.
 --   chain-not .. extent-left      question 1
 --   areas-say                     what it says of the areas
+--   told-in                       what a report tells, on a pack of the extent's model
 --   wrong-areas .. answers        the questions in order
 use Prim.Native.Nat.{ℕ, _≤_}
-use mathlib.Core.Path.{_≡_, ap, sym, _∙_}
+use mathlib.Core.Path.{_≡_, ap, sym, subst, _∙_}
 use mathlib.Core.Bool.{true, false, _&&_}
 use mathlib.Core.Option.{none, some}
 use mathlib.Core.List.{List}
@@ -16,11 +17,12 @@ use Rattle.questions.specs.declared.Question.{Question}
 use Rattle.questions.specs.declared.Question.the-variants as Question
 use Rattle.questions.specs.Areas.{chainFits, storageFits, programFits, restartArgumentsFit, restartAreas}
 use Rattle.address.specs.declared.Extent.{Extent}
-use Rattle.address.specs.Order.{lastCylinder}
+use Rattle.address.specs.declared.Model.{Model}
+use Rattle.address.specs.Model.{lastOf}
 use Rattle.address.specs.Within.{extentOf, soundExtent}
 use Rattle.recovery.specs.Table.{rows}
 use Rattle.recovery.specs.Recovery as Recovery
-use Rattle.recovery.specs.Report.{reportFrom}
+use Rattle.recovery.specs.Report.{Report, reportFrom}
 use Rattle.report.specs.declared.Report as Code
 use Rattle.report.specs.declared.Reported.{Reported}
 use Rattle.report.specs.declared.Reported.the-variants as Reported
@@ -75,17 +77,23 @@ module _ (chain storage program restartArguments extent : ℕ) where
         extent-full = eqb-true _ _ (and-right (chainFits chain && storageFits storage && restartAreas program restartArguments) (eqb extent 8) h);
       }
 
+-- ---- the extent's model
+
+pub told-in : (m : Model) (extent : List ℕ) (x : Extent) (r : Report) (t : Told) → x ≡ extentOf m extent → Tells (lastOf m) r t → Tells (lastOf (x .model)) r t
+unfolding extentOf
+told-in m extent x r t i u = subst (λ (y : Extent). Tells (lastOf (y .model)) r t) (sym i) u
+
 -- ---- the questions in order
 
-module _ (chain report extent st p a : List ℕ) where
+module _ (m : Model) (chain report extent st p a : List ℕ) where
   pub wrong-areas : recoverAreas (length chain) (length st) (length p) (length a) (length extent) ≡ false
-      → with (Refused Question.Areas) st p a ≡ recoverCall chain report extent st p a
+      → with (Refused Question.Areas) st p a ≡ recoverCall m chain report extent st p a
   unfolding recoverCall refusal
   wrong-areas h = sym (pick-false _ _ h)
 
   module _ (h : recoverAreas (length chain) (length st) (length p) (length a) (length extent) ≡ true) where
     pub ill-formed : (r : Reported) (q : Question) → reportedOf report r ≡ reportFrom report → Bounded report r → r ≡ Reported.Refused q
-        → with (Refused q) st p a ≡ recoverCall chain report extent st p a
+        → with (Refused q) st p a ≡ recoverCall m chain report extent st p a
     unfolding recoverCall refusal opt
     ill-formed r q e b f =
         let ill : none ≡ reportFrom report = rw f at e in
@@ -97,20 +105,20 @@ module _ (chain report extent st p a : List ℕ) where
       reported = rw f at e
 
       after-report : (out : Applied)
-          → out ≡ pick (soundExtent lastCylinder (extentOf extent)) (applied (Recovery.recover (givenOf rows chain (extentOf extent)) (reportOf report w) st) st p a) (refusal Question.Extent st p a)
-          → out ≡ recoverCall chain report extent st p a
+          → out ≡ pick (soundExtent (extentOf m extent)) (applied (Recovery.recover (givenOf rows chain (extentOf m extent)) (reportOf report w) st) st p a) (refusal Question.Extent st p a)
+          → out ≡ recoverCall m chain report extent st p a
       unfolding recoverCall opt
       after-report out q = q ∙ sym (pick-true _ _ h ∙ rw (← reported))
 
-      module _ (x : Extent) (i : x ≡ extentOf extent) where
-        pub off-pack : soundExtent lastCylinder x ≡ false → with (Refused Question.Extent) st p a ≡ recoverCall chain report extent st p a
+      module _ (x : Extent) (i : x ≡ extentOf m extent) where
+        pub off-pack : soundExtent x ≡ false → with (Refused Question.Extent) st p a ≡ recoverCall m chain report extent st p a
         unfolding refusal
-        off-pack g = after-report _ (sym (pick-false _ _ (ap (soundExtent lastCylinder) (sym i) ∙ g)))
+        off-pack g = after-report _ (sym (pick-false _ _ (ap soundExtent (sym i) ∙ g)))
 
-        pub answers : (t : Told) (out : Applied) → soundExtent lastCylinder x ≡ true → Tells (reportOf report w) t → Recovers x chain t st p a out
-            → out ≡ recoverCall chain report extent st p a
+        pub answers : (t : Told) (out : Applied) → soundExtent x ≡ true → Tells (lastOf (x .model)) (reportOf report w) t → Recovers x chain t st p a out
+            → out ≡ recoverCall m chain report extent st p a
         answers t out g u k =
             after-report out
             (k (reportOf report w) u
             ∙ ap (λ q. applied (Recovery.recover (givenOf rows chain q) (reportOf report w) st) st p a) i
-            ∙ sym (pick-true _ _ (ap (soundExtent lastCylinder) (sym i) ∙ g)))
+            ∙ sym (pick-true _ _ (ap soundExtent (sym i) ∙ g)))

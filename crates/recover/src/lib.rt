@@ -1,5 +1,6 @@
 // Recovery from one report.
 use address::Extent;
+use address::Model;
 use decision::Decision;
 use error_table::Chosen;
 use questions::Question;
@@ -129,8 +130,9 @@ fn areas_fit(
     extent == 8
 }
 
-// Recovery from a report: refused by question 1, 4, 5, 6, 7, 8 or 9 with nothing changed, or answered.
+// Recovery from a report of a read of a pack of this model: refused by question 1, 4, 5, 6, 7, 8 or 9 with nothing changed, or answered.
 pub fn recover(
+    m: Model,
     chain: &[u8],
     report: &[u8],
     extent: &[u8],
@@ -140,7 +142,7 @@ pub fn recover(
 ) -> Recovered
     ensures { λ r.
         let after = with r (now (storage .exit)) (now (program .exit)) (now («restart_arguments» .exit)) in
-        ⌜ after ≡ recoverCall (now (chain .entry)) (now (report .entry)) (now (extent .entry))
+        ⌜ after ≡ recoverCall m (now (chain .entry)) (now (report .entry)) (now (extent .entry))
         (now (storage .entry)) (now (program .entry)) (now («restart_arguments» .entry)) ⌝ }
     ensures { λ r. ⌜ RecoveredLow r ⌝ }
 {
@@ -159,10 +161,10 @@ pub fn recover(
             return Recovered::Refused(q);
         }
     };
-    let x = address::extent_of(extent);
-    if !x.on_pack(address::LAST_CYLINDER) {
+    let x = address::extent_of(m, extent);
+    if !x.on_pack() {
         return Recovered::Refused(Question::Extent);
     }
-    let t = report::tell(report, r);
+    let t = report::tell(m, report, r);
     recover_told(chain, t, x, storage, program, restart_arguments)
 }

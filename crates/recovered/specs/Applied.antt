@@ -2,7 +2,7 @@
 use Prim.Native.Nat.{ℕ}
 use mathlib.Core.List.{List}
 use Rattle.address.specs.declared.Extent.{Extent}
-use Rattle.address.specs.Order.{lastCylinder}
+use Rattle.address.specs.Model.{lastOf}
 use Rattle.location.specs.Low.{CswLow}
 use Rattle.recovery.specs.Table.{Row}
 use Rattle.recovery.specs.Recovery as Recovery
@@ -65,6 +65,6 @@ RecoveredLow (Restart k) = Unit {0}
 
 -- ---- what the code is told
 
--- chain and extent, on the pack that is built in
+-- rows, chain and extent, on a pack of the extent's model
 abbrev pub givenOf : List Row → (chain : List ℕ) → Extent → Given
-givenOf rows chain x = record { last = lastCylinder; rows = rows; chain = chain; extent = x }
+givenOf rows chain x = record { last = lastOf (x .model); rows = rows; chain = chain; extent = x }

@@ -57,7 +57,8 @@ pub fn action_number(k: Kind) -> u8
 pub fn seek_allowed(x: Extent, a: Address) -> bool
     ensures { λ r. ⌜ r ≡ allowed x a ⌝ }
 {
-    if !a.on_pack(address::LAST_CYLINDER) {
+    let m = x.model;
+    if !a.on_pack(m) {
         return false;
     }
     x.holds(a)

@@ -6,7 +6,8 @@ use mathlib.Core.List.{List, [], _∷_, _++_}
 use lib.ListN.{set, replicate}
 use Rattle.base.specs.Bytes.{two, three}
 use Rattle.questions.specs.declared.Question.the-variants as Question
-use Rattle.address.specs.Order.{lastCylinder}
+use Rattle.address.specs.declared.Model.the-variants.{One}
+use Rattle.address.specs.Model.{lastOf}
 use Rattle.channel.specs.declared.Csw.{Csw}
 use Rattle.drive.specs.declared.FileMask.the-variants.{Unset}
 use Rattle.restart.specs.declared.ReadCount.the-variants.{Omitted}
@@ -30,10 +31,10 @@ pub record Case : Type 0 where
 -- the extent is "to 009/18", from 000/00
 unfoldable pub given : List ℕ → Given
 given chain = record {
-  last = lastCylinder;
+  last = lastOf One;
   rows = rows;
   chain = chain;
-  extent = record { first = record { cylinder = 0; head = 0 }; last = record { cylinder = 9; head = 18 } };
+  extent = record { first = record { cylinder = 0; head = 0 }; last = record { cylinder = 9; head = 18 }; model = One };
 }
 
 -- sense 0 to 2 and the two displacements; sense 7 is 53, track 000/01, R1, sector 0, pattern 010204

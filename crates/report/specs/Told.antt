@@ -1,13 +1,11 @@
 -- What a report tells recovery, as the code has it: by value.
-use Prim.Native.Nat.{ℕ, _+_}
+use Prim.Native.Nat.{ℕ, _+_, _<_}
 use mathlib.Core.Path.{_≡_}
-use mathlib.Core.Bool.{true}
 use mathlib.Core.Option.{Option, none, some}
 use mathlib.Core.List.{List}
 use lib.ListN.{length, getD}
 use Rattle.base.specs.Bytes.{part}
 use Rattle.address.specs.declared.Address.{Address}
-use Rattle.address.specs.Order.{lastCylinder, onPack}
 use Rattle.location.specs.Low.{CswLow}
 use Rattle.recovery.specs.Report.{Report}
 use Rattle.recovery.specs.Recovery.{userTrack, reachedHead, cutTrack, restartDisplacement, errorDisplacement}
@@ -25,18 +23,18 @@ abbrev pub userOf : User → Option Address
 userOf Missing = none
 userOf (Track a) = some a
 
--- it lies on the pack
-abbrev pub UserOnPack : User → Type 0
-UserOnPack Missing = Unit {0}
-UserOnPack (Track a) = onPack lastCylinder a ≡ true
+-- its numbers fit their bytes
+abbrev pub UserLow : User → Type 0
+UserLow Missing = Unit {0}
+UserLow (Track a) = (a .cylinder < 0x10000) × (a .head < 0x10000)
 
--- of the six bytes of a report from a place on
-abbrev pub UserAt : List ℕ → ℕ → User → Type 0
-UserAt report at user = userOf user ≡ userTrack lastCylinder (some (part report at (at + 6)))
+-- of the six bytes of a report from a place on, on a pack with this last cylinder
+abbrev pub UserAt : (last : ℕ) → List ℕ → ℕ → User → Type 0
+UserAt last report at user = userOf user ≡ userTrack last (some (part report at (at + 6)))
 
 -- of a report's seek argument, if it has one
-abbrev pub UserOf : List ℕ → Seek → User → Type 0
-UserOf report seek user = userOf user ≡ userTrack lastCylinder (seekOf report seek)
+abbrev pub UserOf : (last : ℕ) → List ℕ → Seek → User → Type 0
+UserOf last report seek user = userOf user ≡ userTrack last (seekOf report seek)
 
 -- ---- the whole
 
@@ -58,16 +56,16 @@ pub record SenseTells (s : List ℕ) (t : Sense) : Type 0 where
   pub pattern1 : getD s 21 0 ≡ t .pattern1
   pub pattern2 : getD s 22 0 ≡ t .pattern2
 
--- a report tells this
-pub record Tells (r : Report) (t : Told) : Type 0 where
+-- a report tells this of a read of a pack with this last cylinder
+pub record Tells (last : ℕ) (r : Report) (t : Told) : Type 0 where
   pub sense : SenseTells (r .sense) (t .sense)
   pub csw : r .csw ≡ t .csw
   pub first : r .first ≡ t .first
   pub mask : r .mask ≡ t .mask
-  pub user : userTrack lastCylinder (r .seek) ≡ userOf (t .user)
+  pub user : userTrack last (r .seek) ≡ userOf (t .user)
   pub tries : r .tries ≡ t .tries
 
--- its CSW fits its bytes, and the user's track, if there is one, lies on the pack
+-- its CSW fits its bytes, and so does the user's track, if there is one
 pub record ToldLow (t : Told) : Type 0 where
   pub csw-low : CswLow (t .csw)
-  pub user-on : UserOnPack (t .user)
+  pub user-low : UserLow (t .user)

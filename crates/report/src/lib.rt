@@ -1,5 +1,6 @@
 // The report of a unit check: its tagged fields, question 4, and what it tells recovery.
 use address::Address;
+use address::Model;
 use base::FromEnd;
 use base::FromFront;
 use channel::Csw;
@@ -10,11 +11,12 @@ ghost use mathlib.Core.Path.{_≡_};
 ghost use Prim.Native.Nat.{_+_, _%_, _<_, _≤_};
 ghost use lib.ListN.{length};
 ghost use Rattle.base.specs.Bytes.{part};
+ghost use Rattle.address.specs.Model.{lastOf};
 ghost use Rattle.drive.specs.declared.FileMask.the-variants.{Unset};
 ghost use Rattle.recovery.specs.Report.{reportFrom, cswFrom, withMask, withSeek, withTries};
 ghost use Rattle.report.specs.declared.Seek.the-variants.{Absent};
 ghost use Rattle.report.specs.Reported.{sizedAt, soFar, reportOf, reportedOf, Reads, SeekInside, Bounds, Bounded};
-ghost use Rattle.report.specs.Told.{UserAt, UserOf, UserOnPack, SenseTells, Tells, ToldLow};
+ghost use Rattle.report.specs.Told.{UserAt, UserOf, UserLow, SenseTells, Tells, ToldLow};
 
 // The place of the user's seek argument, six bytes.
 pub enum Seek {
@@ -188,7 +190,7 @@ pub struct Sense {
     pub pattern2: u8,
 }
 
-// The track of the user's seek argument, if the report has one that names a track of the pack.
+// The track of the user's seek argument, if the report has one that names a track on the pack.
 pub enum User {
     Track(Address),
     Missing,
@@ -204,11 +206,11 @@ pub struct Told {
     pub user: User,
 }
 
-// The user's seek argument, six bytes of a report.
-fn user_track(report: &[u8], at: usize) -> User
+// The user's seek argument, six bytes of a report, on a pack of a model.
+fn user_track(m: Model, report: &[u8], at: usize) -> User
     requires { ⌜ at + 6 ≤ length (now report) ⌝ }
-    ensures { λ r. ⌜ UserAt (now (report .entry)) at r ⌝ }
-    ensures { λ r. ⌜ UserOnPack r ⌝ }
+    ensures { λ r. ⌜ UserAt (lastOf m) (now (report .entry)) at r ⌝ }
+    ensures { λ r. ⌜ UserLow r ⌝ }
 {
     if base::be16(report, at) != 0 {
         return User::Missing;
@@ -217,20 +219,20 @@ fn user_track(report: &[u8], at: usize) -> User
         cylinder: base::be16(report, at + 2),
         head: base::be16(report, at + 4),
     };
-    if !a.on_pack(address::LAST_CYLINDER) {
+    if !a.on_pack(m) {
         return User::Missing;
     }
     User::Track(a)
 }
 
 // The track of the user's seek argument in a report.
-fn user_of(report: &[u8], seek: Seek) -> User
+fn user_of(m: Model, report: &[u8], seek: Seek) -> User
     requires { ⌜ SeekInside (now report) seek ⌝ }
-    ensures { λ r. ⌜ UserOf (now (report .entry)) seek r ⌝ }
-    ensures { λ r. ⌜ UserOnPack r ⌝ }
+    ensures { λ r. ⌜ UserOf (lastOf m) (now (report .entry)) seek r ⌝ }
+    ensures { λ r. ⌜ UserLow r ⌝ }
 {
     match seek {
-        Seek::At(a) => user_track(report, a),
+        Seek::At(a) => user_track(m, report, a),
         Seek::Absent => User::Missing,
     }
 }
@@ -268,10 +270,10 @@ fn sense_of(sense: &[u8]) -> Sense
     }
 }
 
-// What a report tells, once its fields are found.
-pub fn tell(report: &[u8], r: Report) -> Told
+// What a report tells of a read of a pack of this model, once its fields are found.
+pub fn tell(m: Model, report: &[u8], r: Report) -> Told
     requires { ⌜ Bounds (now report) r ⌝ }
-    ensures { λ t. ⌜ Tells (reportOf (now (report .entry)) r) t ⌝ }
+    ensures { λ t. ⌜ Tells (lastOf m) (reportOf (now (report .entry)) r) t ⌝ }
     ensures { λ t. ⌜ ToldLow t ⌝ }
 {
     let csw = r.csw;
@@ -282,7 +284,7 @@ pub fn tell(report: &[u8], r: Report) -> Told
         csw: csw,
         first: r.first,
         mask: mask,
-        user: user_of(report, seek),
+        user: user_of(m, report, seek),
         tries: r.tries,
     }
 }

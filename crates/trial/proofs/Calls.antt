@@ -18,7 +18,8 @@ use Rattle.base.specs.Choice.{pick, opt}
 use Rattle.base.proofs.Choice.{pick-true, pick-false, and-left, and-right, and-true}
 use Rattle.questions.specs.declared.Question.the-variants as Question
 use Rattle.questions.specs.Areas.{chainFits, argumentsFit, storageFits, imageFits, faultsFit, limitFits, runAreas, restartAreas, restartLimit}
-use Rattle.address.specs.Order.{lastCylinder}
+use Rattle.address.specs.declared.Model.{Model}
+use Rattle.address.specs.Model.{lastOf}
 use Rattle.pack.specs.Pack.{Track, packOf}
 use Rattle.image.specs.Image.{wellFormed}
 use Rattle.faults.specs.Faults.{Fault, faultsAt, soundFaults, soundFrom}
@@ -83,33 +84,33 @@ concluded-so (Ran.Ended e) after = refl
 concluded-so (Ran.Cut k) after = refl
 concluded-so (Ran.Limited s) after = refl
 
-module _ (p : Lent) (image faults : List ℕ) (n : ℕ) (l : Location) (st : List ℕ) where
-  pub image-refused : wellFormed lastCylinder image ≡ false → conclusionOf (Trial.Refused Question.Image) st ≡ begin p image faults n l st
+module _ (last : ℕ) (p : Lent) (image faults : List ℕ) (n : ℕ) (l : Location) (st : List ℕ) where
+  pub image-refused : wellFormed last image ≡ false → conclusionOf (Trial.Refused Question.Image) st ≡ begin last p image faults n l st
   unfolding begin refusal pick
   image-refused h = rw h
 
-  module _ (w : wellFormed lastCylinder image ≡ true) where
-    pub faults-refused : soundFrom (packOf image) faults 0 ≡ false → conclusionOf (Trial.Refused Question.Faults) st ≡ begin p image faults n l st
+  module _ (w : wellFormed last image ≡ true) where
+    pub faults-refused : soundFrom (packOf image) faults 0 ≡ false → conclusionOf (Trial.Refused Question.Faults) st ≡ begin last p image faults n l st
     unfolding begin refusal soundFrom
     faults-refused h =
-        kept-out (faultsAt faults 0) (soundFaults (packOf image)) (refusal st Question.Faults) (λ fs. concluded (runFrom fs (settingWith p image) n l st)) h
+        kept-out (faultsAt faults 0) (soundFaults (packOf image)) (refusal st Question.Faults) (λ fs. concluded (runFrom fs (settingWith last p image) n l st)) h
         ∙ sym (pick-true _ _ w)
 
     pub ran-so : (fs : List Fault) → faultsAt faults 0 ≡ some fs → soundFaults (packOf image) fs ≡ true → (r : Ran) (after : List ℕ)
-        → runFrom fs (settingWith p image) n l st ≡ ranOf r after → conclusionOf (Trial.Ran r) after ≡ begin p image faults n l st
+        → runFrom fs (settingWith last p image) n l st ≡ ranOf r after → conclusionOf (Trial.Ran r) after ≡ begin last p image faults n l st
     unfolding begin pick opt
     ran-so fs e q r after ran = rw (w, e, q, ran) (concluded-so r after)
 
 -- ---- the calls
 
-module _ (chain arguments st image faults : List ℕ) (n : ℕ) where
+module _ (m : Model) (chain arguments st image faults : List ℕ) (n : ℕ) where
   pub run-refused : runAreas (length chain) (length arguments) (length st) (length image) (length faults) n ≡ false
-      → conclusionOf (Trial.Refused Question.Areas) st ≡ runCall chain arguments st image faults n
+      → conclusionOf (Trial.Refused Question.Areas) st ≡ runCall m chain arguments st image faults n
   unfolding runCall refusal pick
   run-refused h = rw h
 
   pub run-fits : runAreas (length chain) (length arguments) (length st) (length image) (length faults) n ≡ true
-      → (k : Conclusion) → k ≡ begin (lentOf chain arguments [] []) image faults n (Chain 0) st → k ≡ runCall chain arguments st image faults n
+      → (k : Conclusion) → k ≡ begin (lastOf m) (lentOf chain arguments [] []) image faults n (Chain 0) st → k ≡ runCall m chain arguments st image faults n
   unfolding runCall pick
   run-fits h k e = rw h e
 
@@ -120,24 +121,24 @@ unfolding restartedAreas runAreas limitFits
 areas-only chain arguments program restartArguments storage image faults v w e f =
     rw (sym (and-true (chainFits chain && argumentsFit arguments && storageFits storage && imageFits image && faultsFit faults)) ∙ e, f)
 
-module _ (chain arguments program restartArguments st image faults : List ℕ) where
+module _ (m : Model) (chain arguments program restartArguments st image faults : List ℕ) where
   areas : (v w : Bool) → runAreas (length chain) (length arguments) (length st) (length image) (length faults) 1 ≡ v → restartAreas (length program) (length restartArguments) ≡ w
       → restartedAreas (length chain) (length arguments) (length program) (length restartArguments) (length st) (length image) (length faults) ≡ (v && w)
   areas v w e f = areas-only (length chain) (length arguments) (length program) (length restartArguments) (length st) (length image) (length faults) v w e f
 
   pub restart-refused : runAreas (length chain) (length arguments) (length st) (length image) (length faults) 1 ≡ false
-      → conclusionOf (Trial.Refused Question.Areas) st ≡ restartCall chain arguments program restartArguments st image faults
+      → conclusionOf (Trial.Refused Question.Areas) st ≡ restartCall m chain arguments program restartArguments st image faults
   unfolding restartCall refusal pick
   restart-refused h = rw (areas false _ h refl)
 
   module _ (a : runAreas (length chain) (length arguments) (length st) (length image) (length faults) 1 ≡ true) where
     pub program-refused : restartAreas (length program) (length restartArguments) ≡ false
-        → conclusionOf (Trial.Refused Question.Areas) st ≡ restartCall chain arguments program restartArguments st image faults
+        → conclusionOf (Trial.Refused Question.Areas) st ≡ restartCall m chain arguments program restartArguments st image faults
     unfolding restartCall refusal pick
     program-refused h = rw (areas true false a h)
 
     pub restart-fits : restartAreas (length program) (length restartArguments) ≡ true
-        → (k : Conclusion) → k ≡ begin (lentOf chain arguments program restartArguments) image faults restartLimit (Restart 0) st
-        → k ≡ restartCall chain arguments program restartArguments st image faults
+        → (k : Conclusion) → k ≡ begin (lastOf m) (lentOf chain arguments program restartArguments) image faults restartLimit (Restart 0) st
+        → k ≡ restartCall m chain arguments program restartArguments st image faults
     unfolding restartCall pick
     restart-fits h k e = rw (areas true true a h) e

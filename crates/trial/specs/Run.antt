@@ -33,14 +33,14 @@ RanLow (Limited m) = CswLow (m .csw)
 abbrev pub TicsFirst : (chain program : List ℕ) → Location → Bool → Type 0
 TicsFirst chain program l b = (p : Lent) → p .chain ≡ chain → p .program ≡ program → b ≡ ticFirst p l
 
--- at most n commands from a state and storage on: what they come to, and storage behind them
-abbrev pub RunsOn : (chain arguments program restartArguments image faults : List ℕ) → ℕ → State → List ℕ → Ran → List ℕ → Type 0
-RunsOn chain arguments program restartArguments image faults n s st r after =
+-- at most n commands from a state and storage on, on a pack with this last cylinder: what they come to, and storage behind them
+abbrev pub RunsOn : ℕ → (chain arguments program restartArguments image faults : List ℕ) → ℕ → State → List ℕ → Ran → List ℕ → Type 0
+RunsOn last chain arguments program restartArguments image faults n s st r after =
     (fs : List Fault) → faultsAt faults 0 ≡ some fs
-    → Machine.run (Step.step fs (settingWith (lentOf chain arguments program restartArguments) image)) limitOf n (stateOf s st) ≡ ranOf r after
+    → Machine.run (Step.step fs (settingWith last (lentOf chain arguments program restartArguments) image)) limitOf n (stateOf s st) ≡ ranOf r after
 
 -- the whole run, from a place and storage
-abbrev pub Runs : (chain arguments program restartArguments image faults : List ℕ) → ℕ → Location → List ℕ → Ran → List ℕ → Type 0
-Runs chain arguments program restartArguments image faults n l st r after =
+abbrev pub Runs : ℕ → (chain arguments program restartArguments image faults : List ℕ) → ℕ → Location → List ℕ → Ran → List ℕ → Type 0
+Runs last chain arguments program restartArguments image faults n l st r after =
     (fs : List Fault) → faultsAt faults 0 ≡ some fs
-    → runFrom fs (settingWith (lentOf chain arguments program restartArguments) image) n l st ≡ ranOf r after
+    → runFrom fs (settingWith last (lentOf chain arguments program restartArguments) image) n l st ≡ ranOf r after

@@ -8,7 +8,8 @@ use Rattle.base.specs.Choice.{pick, opt}
 use Rattle.questions.specs.declared.Question.{Question}
 use Rattle.questions.specs.declared.Question.the-variants as Question
 use Rattle.questions.specs.Areas.{chainFits, argumentsFit, storageFits, imageFits, faultsFit, runAreas, restartAreas, restartLimit}
-use Rattle.address.specs.Order.{lastCylinder}
+use Rattle.address.specs.declared.Model.{Model}
+use Rattle.address.specs.Model.{lastOf}
 use Rattle.pack.specs.Pack.{packOf}
 use Rattle.image.specs.Image.{wellFormed}
 use Rattle.faults.specs.Faults.{faultsAt, soundFaults}
@@ -68,18 +69,18 @@ unfoldable pub concluded : Result Limit End Cut → Conclusion
 concluded r = record { answer = answered r; storage = storageOf r }
 
 -- "2. Is the image well formed? 3. Is each fault well formed and its record in the image?" Then the run, with the faults of the list.
-unfoldable pub begin : Lent → (image faults : List ℕ) → ℕ → Location → List ℕ → Conclusion
-begin p image faults n l st =
-    pick (wellFormed lastCylinder image)
+unfoldable pub begin : ℕ → Lent → (image faults : List ℕ) → ℕ → Location → List ℕ → Conclusion
+begin last p image faults n l st =
+    pick (wellFormed last image)
     (opt (faultsAt faults 0) (refusal st Question.Faults)
-    (λ fs. pick (soundFaults (packOf image) fs) (concluded (runFrom fs (settingWith p image) n l st)) (refusal st Question.Faults)))
+    (λ fs. pick (soundFaults (packOf image) fs) (concluded (runFrom fs (settingWith last p image) n l st)) (refusal st Question.Faults)))
     (refusal st Question.Image)
 
--- A run of a chain. "1. Are all areas and limits as above?"
-unfoldable pub runCall : (chain arguments st image faults : List ℕ) → ℕ → Conclusion
-runCall chain arguments st image faults n =
+-- A run of a chain on a pack of a model. "1. Are all areas and limits as above?"
+unfoldable pub runCall : Model → (chain arguments st image faults : List ℕ) → ℕ → Conclusion
+runCall m chain arguments st image faults n =
     pick (runAreas (length chain) (length arguments) (length st) (length image) (length faults) n)
-    (begin (lentOf chain arguments [] []) image faults n (Chain 0) st)
+    (begin (lastOf m) (lentOf chain arguments [] []) image faults n (Chain 0) st)
     (refusal st Question.Areas)
 
 -- question 1 for a restarted run: the five areas of a run and the two restart areas; its limit is not lent
@@ -88,10 +89,10 @@ restartedAreas chain arguments program restartArguments storage image faults =
     chainFits chain && argumentsFit arguments && storageFits storage && imageFits image && faultsFit faults && restartAreas program restartArguments
 
 -- A run of a restart program: "restart program, 64 bytes at 1000; restart arguments, 16 bytes at 2000".
-unfoldable pub restartCall : (chain arguments program restartArguments st image faults : List ℕ) → Conclusion
-restartCall chain arguments program restartArguments st image faults =
+unfoldable pub restartCall : Model → (chain arguments program restartArguments st image faults : List ℕ) → Conclusion
+restartCall m chain arguments program restartArguments st image faults =
     pick (restartedAreas (length chain) (length arguments) (length program) (length restartArguments) (length st) (length image) (length faults))
-    (begin (lentOf chain arguments program restartArguments) image faults restartLimit (Restart 0) st)
+    (begin (lastOf m) (lentOf chain arguments program restartArguments) image faults restartLimit (Restart 0) st)
     (refusal st Question.Areas)
 
 -- ---- the code's answers

@@ -1,5 +1,5 @@
 // The run of a chain over an image with a fault list.
-use address::LAST_CYLINDER;
+use address::Model;
 use channel::Csw;
 use channel::Location;
 use channel::Slot;
@@ -14,6 +14,7 @@ use questions::Question;
 ghost use mathlib.Core.Path.{_≡_};
 ghost use Prim.Native.Nat.{_≤_};
 ghost use lib.ListN.{length};
+ghost use Rattle.address.specs.Model.{lastOf};
 ghost use Rattle.position.specs.Standing.{Standing};
 ghost use Rattle.location.specs.Low.{Low};
 ghost use Rattle.command.specs.Answer.{StateLow, lentOf};
@@ -54,6 +55,7 @@ fn tic_first(chain: &[u8], program: &[u8], from: Location) -> bool
 
 // At most `limit` commands, from a state on.
 fn run_on(
+    m: Model,
     chain: &[u8],
     arguments: &[u8],
     program: &[u8],
@@ -70,7 +72,7 @@ fn run_on(
     ensures { λ r.
         let before = now (storage .entry) in
         let after = now (storage .exit) in
-        ⌜ RunsOn (now (chain .entry)) (now (arguments .entry)) (now (program .entry)) (now («restart_arguments» .entry))
+        ⌜ RunsOn (lastOf m) (now (chain .entry)) (now (arguments .entry)) (now (program .entry)) (now («restart_arguments» .entry))
         (now (image .entry)) (now (faults .entry)) limit s before r after ⌝ }
     ensures { λ r. ⌜ RanLow r ⌝ }
 {
@@ -79,6 +81,7 @@ fn run_on(
     while left > 0 {
         left -= 1;
         match execute::step(
+            m,
             chain,
             arguments,
             program,
@@ -110,6 +113,7 @@ fn run_on(
 
 // A run from a CCW of the chain or of the restart program.
 pub fn run_from(
+    m: Model,
     chain: &[u8],
     arguments: &[u8],
     program: &[u8],
@@ -125,7 +129,7 @@ pub fn run_from(
     ensures { λ r.
         let before = now (storage .entry) in
         let after = now (storage .exit) in
-        ⌜ Runs (now (chain .entry)) (now (arguments .entry)) (now (program .entry)) (now («restart_arguments» .entry))
+        ⌜ Runs (lastOf m) (now (chain .entry)) (now (arguments .entry)) (now (program .entry)) (now («restart_arguments» .entry))
         (now (image .entry)) (now (faults .entry)) limit from before r after ⌝ }
     ensures { λ r. ⌜ RanLow r ⌝ }
 {
@@ -143,6 +147,7 @@ pub fn run_from(
         drive: Drive::initial(image),
     };
     run_on(
+        m,
         chain,
         arguments,
         program,
@@ -159,6 +164,7 @@ pub fn run_from(
 
 // Questions 2 and 3, and then the run.
 fn begin(
+    m: Model,
     chain: &[u8],
     arguments: &[u8],
     program: &[u8],
@@ -174,16 +180,17 @@ fn begin(
     ensures { λ r.
         let lent = lentOf (now (chain .entry)) (now (arguments .entry)) (now (program .entry)) (now («restart_arguments» .entry)) in
         ⌜ conclusionOf r (now (storage .exit))
-        ≡ Rattle.trial.specs.Trial.begin lent (now (image .entry)) (now (faults .entry)) limit from (now (storage .entry)) ⌝ }
+        ≡ Rattle.trial.specs.Trial.begin (lastOf m) lent (now (image .entry)) (now (faults .entry)) limit from (now (storage .entry)) ⌝ }
     ensures { λ r. ⌜ TrialLow r ⌝ }
 {
-    if !image::well_formed(image, LAST_CYLINDER) {
+    if !image::well_formed(m, image) {
         return Trial::Refused(Question::Image);
     }
     if !faults::sound_faults(image, faults) {
         return Trial::Refused(Question::Faults);
     }
     Trial::Ran(run_from(
+        m,
         chain,
         arguments,
         program,
@@ -198,6 +205,7 @@ fn begin(
 
 // A run of a chain: questions 1, 2 and 3, and then the run. A refusal leaves storage as it was.
 pub fn run(
+    m: Model,
     chain: &[u8],
     arguments: &[u8],
     storage: &mut [u8],
@@ -206,7 +214,7 @@ pub fn run(
     limit: usize,
 ) -> Trial
     ensures { λ r.
-        let called = runCall (now (chain .entry)) (now (arguments .entry)) (now (storage .entry)) (now (image .entry)) (now (faults .entry)) limit in
+        let called = runCall m (now (chain .entry)) (now (arguments .entry)) (now (storage .entry)) (now (image .entry)) (now (faults .entry)) limit in
         ⌜ conclusionOf r (now (storage .exit)) ≡ called ⌝ }
     ensures { λ r. ⌜ TrialLow r ⌝ }
 {
@@ -221,6 +229,7 @@ pub fn run(
         return Trial::Refused(Question::Areas);
     }
     begin(
+        m,
         chain,
         arguments,
         &chain[..0],
@@ -236,6 +245,7 @@ pub fn run(
 // A run of a restart program: the same questions, the two restart areas included. Its limit is not lent, so question 1 is asked with
 // one that fits.
 pub fn run_restart(
+    m: Model,
     chain: &[u8],
     arguments: &[u8],
     program: &[u8],
@@ -245,7 +255,7 @@ pub fn run_restart(
     faults: &[u8],
 ) -> Trial
     ensures { λ r.
-        let called = restartCall (now (chain .entry)) (now (arguments .entry)) (now (program .entry)) (now («restart_arguments» .entry))
+        let called = restartCall m (now (chain .entry)) (now (arguments .entry)) (now (program .entry)) (now («restart_arguments» .entry))
         (now (storage .entry)) (now (image .entry)) (now (faults .entry)) in
         ⌜ conclusionOf r (now (storage .exit)) ≡ called ⌝ }
     ensures { λ r. ⌜ TrialLow r ⌝ }
@@ -264,6 +274,7 @@ pub fn run_restart(
         return Trial::Refused(Question::Areas);
     }
     begin(
+        m,
         chain,
         arguments,
         program,

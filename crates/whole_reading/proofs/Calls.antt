@@ -4,7 +4,7 @@
 --   areas-say                     and of the areas
 --   wrong-areas .. read-so        the questions in order, and the reading behind them
 use Prim.Native.Nat.{ℕ, _*_, _≤_}
-use mathlib.Core.Path.{_≡_, ap, sym, _∙_}
+use mathlib.Core.Path.{_≡_, ap, sym, subst, _∙_}
 use mathlib.Core.Bool.{Bool, true, false, _&&_}
 use mathlib.Core.Option.{some}
 use mathlib.Core.List.{List, []}
@@ -16,7 +16,8 @@ use Rattle.base.proofs.Choice.{pick-true, pick-false, and-left, and-right}
 use Rattle.questions.specs.declared.Question.the-variants as Question
 use Rattle.questions.specs.Areas.{chainFits, argumentsFit, storageFits, imageFits, faultsFit, limitFits, programFits, restartArgumentsFit, runAreas, restartAreas}
 use Rattle.address.specs.declared.Extent.{Extent}
-use Rattle.address.specs.Order.{lastCylinder}
+use Rattle.address.specs.declared.Model.{Model}
+use Rattle.address.specs.Model.{lastOf}
 use Rattle.address.specs.Within.{extentOf, soundExtent}
 use Rattle.pack.specs.Pack.{packOf}
 use Rattle.image.specs.Image.{wellFormed}
@@ -105,10 +106,10 @@ module _ (chain arguments storage image faults extent limit program restartArgum
 
 -- ---- the questions in order
 
-module _ (chain arguments st image faults extent : List ℕ) (n : ℕ) (p a l : List ℕ) where
+module _ (m : Model) (chain arguments st image faults extent : List ℕ) (n : ℕ) (p a l : List ℕ) where
   -- what the contract says of a conclusion
   abbrev Comes : Conclusion → Type 0
-  Comes c = Answers chain arguments st image faults extent n p a l c
+  Comes c = Answers m chain arguments st image faults extent n p a l c
 
   abbrev areas : Bool
   areas = readingAreas (length chain) (length arguments) (length st) (length image) (length faults) (length extent) n (length p) (length a) (length l)
@@ -118,16 +119,16 @@ module _ (chain arguments st image faults extent : List ℕ) (n : ℕ) (p a l : 
   wrong-areas h = sym (pick-false _ _ h)
 
   module _ (h : areas ≡ true) where
-    pub ill-image : wellFormed lastCylinder image ≡ false → Comes (leaving (Outcome.Refused Question.Image) st p a l)
+    pub ill-image : wellFormed (lastOf m) image ≡ false → Comes (leaving (Outcome.Refused Question.Image) st p a l)
     unfolding readingCall
     ill-image w = sym (pick-true _ _ h ∙ pick-false _ _ w)
 
-    module _ (w : wellFormed lastCylinder image ≡ true) where
+    module _ (w : wellFormed (lastOf m) image ≡ true) where
       -- the reading, once its faults are known
       abbrev with-faults : List Fault → Conclusion
       with-faults fs =
-          pick (soundExtent lastCylinder (extentOf extent))
-          (concluded (wholeReading fs (settingWith (lentOf chain arguments [] []) image) rows (extentOf extent) n st) p a l) (leaving (Outcome.Refused Question.Extent) st p a l)
+          pick (soundExtent (extentOf m extent))
+          (concluded (wholeReading fs (settingWith (lastOf m) (lentOf chain arguments [] []) image) rows (extentOf m extent) n st) p a l) (leaving (Outcome.Refused Question.Extent) st p a l)
 
       pub ill-faults : soundFrom (packOf image) faults 0 ≡ false → Comes (leaving (Outcome.Refused Question.Faults) st p a l)
       unfolding readingCall soundFrom
@@ -135,20 +136,20 @@ module _ (chain arguments st image faults extent : List ℕ) (n : ℕ) (p a l : 
           kept-out (faultsAt faults 0) (soundFaults (packOf image)) (leaving (Outcome.Refused Question.Faults) st p a l) with-faults g
           ∙ sym (pick-true _ _ h ∙ pick-true _ _ w)
 
-      module _ (fs : List Fault) (e : faultsAt faults 0 ≡ some fs) (q : soundFaults (packOf image) fs ≡ true) (x : Extent) (i : x ≡ extentOf extent) where
+      module _ (fs : List Fault) (e : faultsAt faults 0 ≡ some fs) (q : soundFaults (packOf image) fs ≡ true) (x : Extent) (i : x ≡ extentOf m extent) where
         after-faults : (c : Conclusion) → c ≡ with-faults fs → Comes c
         unfolding readingCall opt
         after-faults c k = k ∙ sym (pick-true _ _ h ∙ pick-true _ _ w ∙ rw e (pick-true _ _ q))
 
-        pub off-pack : soundExtent lastCylinder x ≡ false → Comes (leaving (Outcome.Refused Question.Extent) st p a l)
-        off-pack g = after-faults _ (sym (pick-false _ _ (ap (soundExtent lastCylinder) (sym i) ∙ g)))
+        pub off-pack : soundExtent x ≡ false → Comes (leaving (Outcome.Refused Question.Extent) st p a l)
+        off-pack g = after-faults _ (sym (pick-false _ _ (ap soundExtent (sym i) ∙ g)))
 
-        pub read-so : soundExtent lastCylinder x ≡ true → (first : Ran) (after : List ℕ) → Runs chain arguments [] [] image faults n (Chain 0) st first after
+        pub read-so : soundExtent x ≡ true → (first : Ran) (after : List ℕ) → Runs (lastOf m) chain arguments [] [] image faults n (Chain 0) st first after
             → (o : Over) (y : Areas) → ReadsOn chain arguments image faults x n first (lentAreas after p a l) o y
             → Comes (leaving (Outcome.Over o) (y .storage) (y .program) (y .restartArguments) (y .list))
-        unfolding wholeReading
+        unfolding wholeReading extentOf
         read-so g first after runs o y reads =
             after-faults _
-            (reads fs e ∙ ap (λ (r : Result Limit Step.End Step.Cut). concluded (readOn fs (toldOf chain arguments image) x n noLog r) p a l) (sym (runs fs e))
-            ∙ ap (λ (z : Extent). concluded (wholeReading fs (toldOf chain arguments image) rows z n st) p a l) i
-            ∙ sym (pick-true _ _ (ap (soundExtent lastCylinder) (sym i) ∙ g)))
+            (subst (λ (z : Extent). ReadsOn chain arguments image faults z n first (lentAreas after p a l) o y) i reads fs e
+            ∙ ap (λ (r : Result Limit Step.End Step.Cut). concluded (readOn fs (toldOf (lastOf m) chain arguments image) (extentOf m extent) n noLog r) p a l) (sym (runs fs e))
+            ∙ sym (pick-true _ _ (ap soundExtent (sym i) ∙ g)))

@@ -1,5 +1,5 @@
 // The call that reads: its questions, the first run, and all that follow it.
-use address::LAST_CYLINDER;
+use address::Model;
 use channel::Location;
 use questions::Question;
 use reading_runs::Outcome;
@@ -36,6 +36,7 @@ fn areas_fit(
 
 // A reading: refused by question 1, 2, 3 or 5 with nothing changed, or read to its end. The list gets 6 bytes for each recovery.
 pub fn read(
+    m: Model,
     chain: &[u8],
     arguments: &[u8],
     storage: &mut [u8],
@@ -49,7 +50,7 @@ pub fn read(
 ) -> Outcome
     ensures { λ r.
         let after = leaving r (now (storage .exit)) (now (program .exit)) (now («restart_arguments» .exit)) (now (list .exit)) in
-        ⌜ Answers (now (chain .entry)) (now (arguments .entry)) (now (storage .entry)) (now (image .entry)) (now (faults .entry))
+        ⌜ Answers m (now (chain .entry)) (now (arguments .entry)) (now (storage .entry)) (now (image .entry)) (now (faults .entry))
         (now (extent .entry)) limit (now (program .entry)) (now («restart_arguments» .entry)) (now (list .entry)) after ⌝ }
     ensures made { λ r. ⌜ MadeWithin limit r ⌝ }
     ensures low { λ r. ⌜ OutcomeLow r ⌝ }
@@ -68,17 +69,18 @@ pub fn read(
     ) {
         return Outcome::Refused(Question::Areas);
     }
-    if !image::well_formed(image, LAST_CYLINDER) {
+    if !image::well_formed(m, image) {
         return Outcome::Refused(Question::Image);
     }
     if !faults::sound_faults(image, faults) {
         return Outcome::Refused(Question::Faults);
     }
-    let x = address::extent_of(extent);
-    if !x.on_pack(LAST_CYLINDER) {
+    let x = address::extent_of(m, extent);
+    if !x.on_pack() {
         return Outcome::Refused(Question::Extent);
     }
     let first = trial::run_from(
+        m,
         chain,
         arguments,
         &chain[..0],

@@ -2,11 +2,14 @@
 
 use super::scatter::COMMANDS;
 use super::GeneratedRun;
+use crate::models::{self, border_track};
 use crate::random::Random;
 use crate::simulator::channel::{
     CCW_LENGTH, FLAG_CHAIN_COMMAND, FLAG_CHAIN_DATA, FLAG_PCI, FLAG_SKIP, FLAG_SUPPRESS_LENGTH,
     RESTART_PROGRAM,
 };
+use crate::simulator::encode::{put_home_address, put_record};
+use crate::simulator::model::Model;
 
 /// Changes the chain, the arguments, storage or the limit in one way.
 pub fn changed(
@@ -55,7 +58,7 @@ pub fn changed_restart(
     }
 }
 
-/// Changes an area or the limit so that a question is mostly answered no.
+/// Changes an area, the limit or the model so that a question is mostly answered no.
 pub fn refused(
     random: &mut Random,
     turn: usize,
@@ -182,7 +185,7 @@ const AREAS: [ToRun; 4] = [
     }),
 ];
 
-const QUESTIONS: [ToRun; 10] = [
+const QUESTIONS: [ToRun; 14] = [
     ("image torn", |random, run| {
         let left = random.below(run.image.len().max(1));
         run.image.truncate(left);
@@ -192,6 +195,11 @@ const QUESTIONS: [ToRun; 10] = [
             let at = random.below(run.image.len());
             run.image[at] ^= random.nonzero_byte();
         }
+    }),
+    ("track at the end of a pack", |random, run| {
+        let track = border_track(random);
+        put_home_address(&mut run.image, track);
+        put_record(&mut run.image, track, 0, &[], &[]);
     }),
     ("fault list torn", |random, run| {
         run.faults.push(random.byte());
@@ -218,7 +226,25 @@ const QUESTIONS: [ToRun; 10] = [
     ("limit out of range", |random, run| {
         run.limit = random.pick(&[0, 4_097, 65_536 + 1]);
     }),
+    ("no model", |random, run| {
+        run.model = models::any_other(random);
+    }),
+    ("no model, image and fault list torn", |random, run| {
+        run.model = models::any_other(random);
+        run.image.push(random.byte());
+        run.faults.push(random.byte());
+    }),
+    ("other model", |_, run| run.model = other_model(run.model)),
 ];
+
+/// The pack may lack tracks of the image then.
+fn other_model(model: u8) -> u8 {
+    let other = match models::model_of(model) {
+        Model::One => Model::Eleven,
+        Model::Eleven => Model::One,
+    };
+    other.number()
+}
 
 fn any_address(random: &mut Random, ccws: &[u8]) -> usize {
     random.below(ccws.len() / CCW_LENGTH) * CCW_LENGTH

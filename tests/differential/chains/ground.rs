@@ -1,12 +1,14 @@
 //! Images of few records with their fault lists, so that a chain meets every record often.
 
 use crate::generate::{self, written};
+use crate::models::borders_on;
 use crate::random::Random;
 use crate::simulator::encode::{put_home_address, put_record};
+use crate::simulator::model::Model;
 use crate::simulator::pack::{Pack, TrackAddress, LAST_HEAD, LONGEST_RECORD};
-use crate::simulator::LAST_CYLINDER;
 
 pub struct Ground {
+    pub model: Model,
     pub image: Vec<u8>,
     pub faults: Vec<u8>,
     /// Whether chains over it have multitrack commands.
@@ -15,66 +17,83 @@ pub struct Ground {
     pub storage: usize,
 }
 
-/// Ascending; a run starts at the first.
-const TRACKS: [TrackAddress; 6] = [
-    at(0, 0),
-    at(0, 1),
-    at(0, 18),
-    at(1, 0),
-    at(257, 1),
-    at(LAST_CYLINDER, 18),
-];
+/// Ascending; a run starts at the first. The last stand at the end of the pack, and where one of another
+/// model ends.
+fn tracks(model: Model) -> Vec<TrackAddress> {
+    let mut tracks = vec![at(0, 0), at(0, 1), at(0, 18), at(1, 0), at(257, 1)];
+    for &cylinder in borders_on(model) {
+        let head = match is_last(cylinder) {
+            true => LAST_HEAD,
+            false => 0,
+        };
+        tracks.push(at(cylinder, head));
+    }
+    tracks
+}
+
+/// Whether a pack of some model ends with this cylinder.
+fn is_last(cylinder: u16) -> bool {
+    Model::ALL
+        .iter()
+        .any(|model| model.last_cylinder() == cylinder)
+}
 
 const fn at(cylinder: u16, head: u16) -> TrackAddress {
     TrackAddress { cylinder, head }
 }
 
-/// Adjacent heads: where a run starts; up to the last of a cylinder, the next one's first behind it; at
-/// the end of the pack. Each is there once in so many.
-const HEADS: [([TrackAddress; 4], usize); 3] = [
-    ([at(0, 0), at(0, 1), at(0, 2), at(0, 3)], 1),
-    ([at(0, 16), at(0, 17), at(0, 18), at(1, 0)], 2),
-    (
-        [
-            at(LAST_CYLINDER, 15),
-            at(LAST_CYLINDER, 16),
-            at(LAST_CYLINDER, 17),
-            at(LAST_CYLINDER, 18),
-        ],
-        4,
-    ),
-];
+/// Adjacent heads: where a run starts; up to the last of a cylinder, the next one's first behind it; where a
+/// pack of another model ends, and behind that; at the end of the pack. Each is there once in so many.
+fn heads(model: Model) -> Vec<([TrackAddress; 4], usize)> {
+    let last = model.last_cylinder();
+    let ends = Model::ALL.iter().map(|model| model.last_cylinder());
+    let behind_ends = ends.filter(|&end| end < last).map(|end| {
+        let next = end + 1;
+        ([at(end, 17), at(end, 18), at(next, 0), at(next, 1)], 1)
+    });
+    ([
+        ([at(0, 0), at(0, 1), at(0, 2), at(0, 3)], 1),
+        ([at(0, 16), at(0, 17), at(0, 18), at(1, 0)], 2),
+    ]
+    .into_iter())
+    .chain(behind_ends)
+    .chain([([15, 16, 17, 18].map(|head| at(last, head)), 2)])
+    .collect()
+}
 
-pub fn any_track(random: &mut Random) -> TrackAddress {
-    random.pick(&TRACKS)
+pub fn any_track(random: &mut Random, model: Model) -> TrackAddress {
+    random.pick(&tracks(model))
 }
 
 impl Ground {
-    /// Four times in five multitrack.
+    /// Of either model; four times in five multitrack.
     pub fn new(random: &mut Random) -> Ground {
+        let model = random.pick(Model::ALL);
         let storage = storage(random);
         if random.once_in(5) {
-            let image = image(random, put_track);
-            Ground::of(random, storage, image, false)
+            let image = image(random, model, put_track);
+            Ground::of(random, model, storage, image, false)
         } else {
-            let image = adjacent_heads(random);
-            Ground::of(random, storage, image, true)
+            let image = adjacent_heads(random, model);
+            Ground::of(random, model, storage, image, true)
         }
     }
 
     /// Records up to the longest, and storage for most of them.
     pub fn long(random: &mut Random) -> Ground {
+        let model = random.pick(Model::ALL);
         let storage = random.pick(&[4_096, 20_000, 65_535, 65_536]);
-        let image = image(random, put_long_track);
+        let image = image(random, model, put_long_track);
         let is_multitrack = random.once_in(2);
-        Ground::of(random, storage, image, is_multitrack)
+        Ground::of(random, model, storage, image, is_multitrack)
     }
 
     /// Runs of adjacent heads anywhere on some cylinders, many of them with R0 alone; no faults.
     pub fn of_heads(random: &mut Random) -> Ground {
+        let model = random.pick(Model::ALL);
         let mut image = Vec::new();
-        for cylinder in [0, 1, 257, LAST_CYLINDER] {
-            let is_last_chance = image.is_empty() && cylinder == LAST_CYLINDER;
+        for &cylinder in [0, 1, 257].iter().chain(borders_on(model)) {
+            let is_last_chance = image.is_empty() && cylinder == model.last_cylinder();
             if is_last_chance || random.once_in(2) {
                 let first = random.within(0..=LAST_HEAD.into());
                 let heads = random.within(2..=12);
@@ -84,6 +103,7 @@ impl Ground {
             }
         }
         Ground {
+            model,
             faults: Vec::new(),
             storage: storage(random),
             is_multitrack: true,
@@ -91,14 +111,21 @@ impl Ground {
         }
     }
 
-    fn of(random: &mut Random, storage: usize, image: Vec<u8>, is_multitrack: bool) -> Ground {
-        let pack = generate::decoded(&image);
+    fn of(
+        random: &mut Random,
+        model: Model,
+        storage: usize,
+        image: Vec<u8>,
+        is_multitrack: bool,
+    ) -> Ground {
+        let pack = generate::decoded(model, &image);
         let faults = if random.once_in(2) {
             Vec::new()
         } else {
             written(&generate::faults(random, &pack))
         };
         Ground {
+            model,
             faults,
             storage,
             is_multitrack,
@@ -116,7 +143,7 @@ impl Ground {
     }
 
     pub fn pack(&self) -> Pack<'_> {
-        generate::decoded(&self.image)
+        generate::decoded(self.model, &self.image)
     }
 }
 
@@ -132,9 +159,9 @@ fn storage(random: &mut Random) -> usize {
 
 type PutTrack = fn(&mut Random, &mut Vec<u8>, TrackAddress);
 
-fn image(random: &mut Random, put_track: PutTrack) -> Vec<u8> {
+fn image(random: &mut Random, model: Model, put_track: PutTrack) -> Vec<u8> {
     let mut image = Vec::new();
-    for (place, track) in TRACKS.into_iter().enumerate() {
+    for (place, track) in tracks(model).into_iter().enumerate() {
         let left_out = if place == 0 {
             random.once_in(16)
         } else {
@@ -147,9 +174,9 @@ fn image(random: &mut Random, put_track: PutTrack) -> Vec<u8> {
     image
 }
 
-fn adjacent_heads(random: &mut Random) -> Vec<u8> {
+fn adjacent_heads(random: &mut Random, model: Model) -> Vec<u8> {
     let mut image = Vec::new();
-    for (tracks, once_in) in HEADS {
+    for (tracks, once_in) in heads(model) {
         if random.once_in(once_in) {
             put_few_records(random, &mut image, &tracks);
         }

@@ -21,6 +21,7 @@ pub use scatter::{multitrack_commands, random_bytes, random_ccws, COMMANDS};
 impl GeneratedRun {
     fn of(random: &mut Random, ground: Ground, chain: Vec<u8>, arguments: Vec<u8>) -> GeneratedRun {
         GeneratedRun {
+            model: ground.model.number(),
             chain,
             arguments,
             storage: random.bytes(ground.storage),

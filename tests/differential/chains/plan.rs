@@ -4,6 +4,7 @@ pub mod forbidden;
 
 use super::ground::{any_track, Ground};
 use super::GeneratedRun;
+use crate::models::border_track;
 use crate::random::Random;
 use crate::simulator::channel::{
     CCW_LENGTH, FLAG_CHAIN_COMMAND, FLAG_CHAIN_DATA, FLAG_PCI, FLAG_SKIP, FLAG_SUPPRESS_LENGTH,
@@ -15,8 +16,8 @@ use crate::simulator::drive::{
 };
 use crate::simulator::encode;
 use crate::simulator::faults::FaultList;
+use crate::simulator::model::Model;
 use crate::simulator::pack::{Pack, TrackAddress};
-use crate::simulator::LAST_CYLINDER;
 
 pub fn planned(random: &mut Random) -> GeneratedRun {
     let ground = Ground::new(random);
@@ -108,6 +109,7 @@ enum Fit {
 /// A chain being written, and the drive as it will be if the chain goes on so far.
 struct Plan<'a, 'r> {
     random: &'r mut Random,
+    model: Model,
     pack: &'a Pack<'a>,
     /// Bytes of storage.
     storage: usize,
@@ -131,13 +133,14 @@ impl<'a, 'r> Plan<'a, 'r> {
     ) -> Plan<'a, 'r> {
         Plan {
             random,
+            model: ground.model,
             pack,
             storage: ground.storage,
             is_multitrack: ground.is_multitrack,
             multitrack_of_three: 1,
             chain: Vec::new(),
             arguments: Vec::new(),
-            drive: Drive::new(pack, no_faults, LAST_CYLINDER),
+            drive: Drive::new(pack, no_faults, ground.model),
             mask_set: false,
             stays: false,
         }
@@ -232,9 +235,10 @@ impl<'a, 'r> Plan<'a, 'r> {
         let tracks: Vec<TrackAddress> = self.pack.tracks().map(|(track, _)| track).collect();
         let mut argument = [0; 6];
         let track = match self.random.below(80) {
-            0 => self.random.pick(&OFF_THE_PACK),
-            1..=4 => any_track(self.random),
-            _ if tracks.is_empty() => any_track(self.random),
+            0 => self.random.pick(&OFF_EACH_PACK),
+            1 => border_track(self.random),
+            2..=4 => any_track(self.random, self.model),
+            _ if tracks.is_empty() => any_track(self.random, self.model),
             _ => self.random.pick(&tracks),
         };
         argument[2..].copy_from_slice(&encode::track_address(track));
@@ -497,11 +501,7 @@ impl<'a, 'r> Plan<'a, 'r> {
 /// Of no record.
 const NO_ID: [u8; 5] = [0xFF; 5];
 
-const OFF_THE_PACK: [TrackAddress; 4] = [
-    TrackAddress {
-        cylinder: 411,
-        head: 0,
-    },
+const OFF_EACH_PACK: [TrackAddress; 3] = [
     TrackAddress {
         cylinder: 0,
         head: 19,

@@ -67,6 +67,7 @@ pub fn to_the_first_ccw() -> GeneratedRestart {
 /// A restart of any of the actions to any CCW of the chain, behind any record.
 pub fn anywhere(random: &mut Random) -> GeneratedRun {
     let ground = Ground::new(random);
+    let model = ground.model;
     let mut run = planned_on(random, ground);
     let ccws: Vec<Ccw> = (0..run.chain.len())
         .step_by(CCW_LENGTH)
@@ -77,7 +78,7 @@ pub fn anywhere(random: &mut Random) -> GeneratedRun {
         0 => None,
         _ => Some(random.pick(&[0x00, 0x01, 0x18, 0xC0])),
     };
-    let pack = decoded(&run.image);
+    let pack = decoded(model, &run.image);
     let records = pack.tracks().flat_map(|(_, records)| records);
     let ids: Vec<[u8; 5]> = records
         .filter_map(|record| record.count_area.first_chunk().copied())

@@ -84,7 +84,7 @@ impl Arguments {
             bytes.extend(encode::track_address(track));
         }
         bytes.extend([0, 0]);
-        bytes.extend(encode::track_address(any_track(random)));
+        bytes.extend(encode::track_address(any_track(random, ground.model)));
         let ids = bytes.len();
         for (_, records) in ground.pack().tracks() {
             bytes.extend(records.iter().flat_map(|record| &record.count_area[..5]));

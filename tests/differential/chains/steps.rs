@@ -1,6 +1,7 @@
 //! Chains that go from step to step on small tracks, whatever comes of a search.
 
 use super::{limit, ForbiddenSteps, GeneratedRun};
+use crate::models::borders_on;
 use crate::random::Random;
 use crate::simulator::channel::{CCW_LENGTH, FLAG_CHAIN_COMMAND, FLAG_SKIP, FLAG_SUPPRESS_LENGTH};
 use crate::simulator::drive::{
@@ -10,7 +11,9 @@ use crate::simulator::drive::{
     SEARCH_ID_EQUAL_MULTITRACK, SEEK, SET_FILE_MASK, SET_SECTOR,
 };
 use crate::simulator::encode;
-use crate::simulator::large::track_at;
+use crate::simulator::large::{place_of, track_at};
+use crate::simulator::model::Model;
+use crate::simulator::pack::TrackAddress;
 
 #[derive(Clone, Copy)]
 pub enum Step {
@@ -103,8 +106,14 @@ pub fn random_steps(random: &mut Random) -> GeneratedRun {
     let steps: Vec<Step> = (0..how_many).map(|_| random.pick(&MANY)).collect();
     let heads = random.within(1..=4);
     let records: Vec<u8> = (0..heads).map(|_| random.within(0..=3) as u8).collect();
-    let first = random.pick(&[0, 0, 19 - heads]);
+    let model = random.pick(Model::ALL);
+    let at_the_end = place_of(TrackAddress {
+        cylinder: random.pick(borders_on(model)),
+        head: 0,
+    });
+    let first = random.pick(&[0, 0, 19 - heads, at_the_end, at_the_end + 19 - heads]);
     GeneratedRun {
+        model: model.number(),
         limit: limit(random),
         ..stepped(first, &records, &steps)
     }
@@ -190,9 +199,7 @@ fn stepped_behind(front: &[u8], first: usize, records: &[u8], steps: &[Step]) ->
         arguments,
         storage: vec![0xEE; storage],
         image,
-        faults: Vec::new(),
-        limit: 4_096,
-        restart: None,
+        ..GeneratedRun::default()
     }
 }
 

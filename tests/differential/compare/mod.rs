@@ -6,12 +6,22 @@ mod recovery;
 mod run;
 
 use crate::arena::Arena;
-use crate::library;
-use crate::simulator::areas::{check_restart, check_run, RunSizes};
-use crate::simulator::{answer, check_extent, check_faults, check_image, Refusal, LAST_CYLINDER};
-use crate::tally::{
-    Call, Tally, CHECK_AREAS, CHECK_EXTENT, CHECK_FAULTS, CHECK_IMAGE, CHECK_RESTART_AREAS,
+use crate::border_marks::Borders;
+use crate::calls::{
+    Call, CHECK_AREAS, CHECK_EXTENT, CHECK_FAULTS, CHECK_IMAGE, CHECK_RESTART_AREAS,
 };
+use crate::library;
+use crate::models::borders_on;
+use crate::random::Random;
+use crate::simulator::areas::{check_restart, check_run, RunSizes};
+use crate::simulator::drive::{RejectRule, UnitCheck};
+use crate::simulator::extent::ExtentRule;
+use crate::simulator::interrupted::InterruptedRule;
+use crate::simulator::model::Model;
+use crate::simulator::pack::ImageRule;
+use crate::simulator::run::End;
+use crate::simulator::{check_extent, check_faults, check_image, Refusal};
+use crate::tally::Tally;
 use std::fmt;
 
 /// Bytes in hexadecimal, the middle of many left out.
@@ -44,9 +54,11 @@ impl fmt::Display for Disagreement {
     }
 }
 
-/// An input: its kind, the bytes lent and the numbers given.
+/// An input: its kind, the number of a model where the call takes one, the bytes lent and the numbers
+/// given.
 struct Input<'a> {
     kind: &'static str,
+    model: Option<u8>,
     lent: &'a [(&'static str, &'a [u8])],
     numbers: &'a [(&'static str, usize)],
 }
@@ -58,53 +70,93 @@ pub struct Comparison {
 }
 
 impl Comparison {
-    pub fn image(&mut self, kind: &'static str, image: &[u8]) -> Result<(), Disagreement> {
-        let expected = check_image(image, LAST_CYLINDER);
+    /// A model for the next input, where any will do.
+    pub fn any_model(&self) -> Model {
+        Random::new(self.tally.compared).pick(Model::ALL)
+    }
+
+    /// The same, and its first cylinder or one at the end of a pack.
+    pub fn any_cylinder(&self) -> (Model, u16) {
+        let mut random = Random::new(self.tally.compared);
+        let model = random.pick(Model::ALL);
+        let cylinder = random.pick(borders_on(model));
+        (model, random.pick(&[0, cylinder]))
+    }
+
+    pub fn image(
+        &mut self,
+        kind: &'static str,
+        model: u8,
+        image: &[u8],
+    ) -> Result<(), Disagreement> {
+        let refusal = check_image(model, image).err();
         let input = Input {
             kind,
+            model: Some(model),
             lent: &[("image", image)],
             numbers: &[],
         };
-        self.checked(CHECK_IMAGE, input, expected, |lent| {
-            library::check_image(&mut lent[0])
-        })
+        self.checked(CHECK_IMAGE, input, refusal, |lent| {
+            library::check_image(model, &mut lent[0])
+        })?;
+        self.see_borders(CHECK_IMAGE, model, |borders, model| {
+            borders.see_image(model, image, refusal);
+        });
+        Ok(())
     }
 
     pub fn faults(
         &mut self,
         kind: &'static str,
+        model: u8,
         image: &[u8],
         faults: &[u8],
     ) -> Result<(), Disagreement> {
-        let expected = check_faults(image, faults, LAST_CYLINDER);
+        let refusal = check_faults(model, image, faults).err();
         let input = Input {
             kind,
+            model: Some(model),
             lent: &[("image", image), ("faults", faults)],
             numbers: &[],
         };
-        self.checked(CHECK_FAULTS, input, expected, |lent| {
+        self.checked(CHECK_FAULTS, input, refusal, |lent| {
             let [image, faults] = lent else {
                 unreachable!("two areas are lent")
             };
-            library::check_faults(image, faults)
-        })
+            library::check_faults(model, image, faults)
+        })?;
+        self.see_borders(CHECK_FAULTS, model, |borders, model| {
+            borders.see_image(model, image, refusal);
+        });
+        Ok(())
     }
 
-    pub fn extent(&mut self, kind: &'static str, extent: &[u8]) -> Result<(), Disagreement> {
-        let expected = check_extent(extent, LAST_CYLINDER);
+    pub fn extent(
+        &mut self,
+        kind: &'static str,
+        model: u8,
+        extent: &[u8],
+    ) -> Result<(), Disagreement> {
+        let refusal = check_extent(model, extent).err();
         let input = Input {
             kind,
+            model: Some(model),
             lent: &[("extent", extent)],
             numbers: &[],
         };
-        self.checked(CHECK_EXTENT, input, expected, |lent| {
-            library::check_extent(&mut lent[0])
-        })
+        self.checked(CHECK_EXTENT, input, refusal, |lent| {
+            library::check_extent(model, &mut lent[0])
+        })?;
+        self.see_borders(CHECK_EXTENT, model, |borders, model| {
+            borders.see_extent(model, extent, refusal);
+        });
+        Ok(())
     }
 
     pub fn areas(&mut self, kind: &'static str, sizes: RunSizes) -> Result<(), Disagreement> {
         let input = Input {
             kind,
+            model: None,
             lent: &[],
             numbers: &[
                 ("chain", sizes.chain),
@@ -115,7 +167,7 @@ impl Comparison {
                 ("limit", sizes.limit),
             ],
         };
-        self.checked(CHECK_AREAS, input, check_run(sizes), |_| {
+        self.checked(CHECK_AREAS, input, check_run(sizes).err(), |_| {
             library::check_areas(sizes)
         })
     }
@@ -127,30 +179,28 @@ impl Comparison {
     ) -> Result<(), Disagreement> {
         let input = Input {
             kind,
+            model: None,
             lent: &[],
             numbers: &[("program", program), ("arguments", arguments)],
         };
         self.checked(
             CHECK_RESTART_AREAS,
             input,
-            check_restart(program, arguments),
+            check_restart(program, arguments).err(),
             |_| library::check_restart_areas(program, arguments),
         )
     }
 
     /// Calls the library with a copy of what is lent, and compares the answers and the copy: a check
-    /// answers a question's number and writes nothing.
-    fn checked<T>(
+    /// answers a question's number and writes nothing. The simulator refuses for this or not at all.
+    fn checked(
         &mut self,
         call: Call,
         input: Input,
-        expected: Result<T, Refusal>,
+        refusal: Option<Refusal>,
         library: impl FnOnce(&mut [Vec<u8>]) -> u8,
     ) -> Result<(), Disagreement> {
-        let simulator = answer(&expected);
-        if let Err(refusal) = expected {
-            self.tally.count_rule(refusal);
-        }
+        let simulator = refusal.map_or(0, Refusal::number);
         let mut copies: Vec<Vec<u8>> = input.lent.iter().map(|(_, lent)| lent.to_vec()).collect();
         let library = library(&mut copies);
         let changed = input
@@ -164,9 +214,62 @@ impl Comparison {
             let text = describe(call, &input, before, simulator, library, changed);
             return Err(Disagreement(text));
         }
-        self.tally.count(call, input.kind, simulator);
+        match input.model {
+            Some(model) => {
+                self.tally.count_on(call, input.kind, model, simulator);
+            }
+            None => self.tally.count(call, input.kind, simulator),
+        }
+        self.count_rule(input.model, refusal);
         Ok(())
     }
+
+    fn count_rule(&mut self, model: Option<u8>, refusal: Option<Refusal>) {
+        let model = model.and_then(|number| Model::check(number).ok());
+        if let Some(refusal) = refusal {
+            self.tally.count_rule(model, refusal);
+        }
+    }
+
+    /// Of an input to which it makes no difference where the pack ends. Once in eight on model 1 the library
+    /// is given it on model 11 too: what is wrong with what it leaves.
+    fn wrong_on_model_11<const AREAS: usize>(
+        &mut self,
+        sides: &Sides<AREAS>,
+        by_library: impl FnOnce(u8, Arena<AREAS>) -> Left<AREAS>,
+    ) -> Option<&'static str> {
+        let is_one = Model::check(sides.model) == Ok(Model::One);
+        if !is_one || self.tally.compared % 8 != 0 {
+            return None;
+        }
+        self.tally.alike += 1;
+        let left = by_library(Model::Eleven.number(), sides.lent.clone());
+        (left != sides.by_library).then_some("another answer on model 11")
+    }
+
+    /// Counts what a call judged at the ends of packs.
+    fn see_borders(&mut self, call: Call, model: u8, see: impl FnOnce(&mut Borders, Model)) {
+        if let Ok(model) = Model::check(model) {
+            let mut borders = Borders::default();
+            see(&mut borders, model);
+            self.tally.on(model).borders.count(call, borders);
+        }
+    }
+}
+
+/// Whether a pack with more cylinders may be answered otherwise.
+fn is_off_the_pack(refusal: Refusal) -> bool {
+    matches!(
+        refusal,
+        Refusal::Image(ImageRule::OffThePack)
+            | Refusal::Extent(ExtentRule::OffThePack)
+            | Refusal::Interrupted(InterruptedRule::SeekOffThePack)
+    )
+}
+
+/// The same of how a run ended.
+fn is_sought_off_the_pack(end: End) -> bool {
+    end == End::UnitCheck(UnitCheck::Reject(RejectRule::SeekOffThePack))
 }
 
 fn describe(
@@ -181,6 +284,9 @@ fn describe(
         "{}, {}: disagreement after {before} inputs\n",
         call.name, input.kind
     );
+    if let Some(model) = input.model {
+        text += &format!("  model {model}\n");
+    }
     for (name, lent) in input.lent {
         text += &format!("  {name} {}\n", Hexadecimal(lent));
     }
@@ -204,6 +310,7 @@ struct Left<const AREAS: usize> {
 /// The same areas, lent to simulator and library.
 struct Sides<const AREAS: usize> {
     names: &'static [&'static str; AREAS],
+    model: u8,
     lent: Arena<AREAS>,
     limit: Option<usize>,
     by_simulator: Left<AREAS>,
@@ -219,6 +326,7 @@ impl<const AREAS: usize> Sides<AREAS> {
     /// What is told of them, and what is wrong after so many inputs.
     fn told(&self, call: Call, kind: &str, what: &str, before: u64) -> Disagreement {
         let mut text = format!("{}, {kind}: {what} after {before} inputs\n", call.name);
+        text += &format!("  model {}\n", self.model);
         for (name, area) in self.names.iter().zip(self.lent.areas()) {
             text += &format!("  {name} {}\n", Hexadecimal(area));
         }

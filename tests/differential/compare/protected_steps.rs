@@ -1,8 +1,11 @@
 //! A chain whose steps the file mask forbids, run on by library and simulator.
 
 use super::{Comparison, Disagreement, Hexadecimal};
+use crate::border_marks::AboveEvent;
+use crate::calls::RECOVER;
 use crate::chains::{ForbiddenSteps, GeneratedRun};
 use crate::library::ANSWER;
+use crate::models::{is_above_model_1, model_of};
 use crate::protected_steps::{run_on, Failed, Machine};
 use crate::random::Random;
 use crate::reports::GeneratedRecovery;
@@ -40,7 +43,12 @@ impl Comparison {
     ) -> Result<(), Disagreement> {
         match run_on(self, random, chain) {
             Ok(run_on) => {
-                self.tally.protected_steps.count(run_on);
+                let answered = run_on.steps > 0 && is_above_model_1(chain.sought.cylinder);
+                self.see_borders(RECOVER, chain.run.model, |borders, _| {
+                    borders.meet_if(answered, AboveEvent::ProtectedStepAnswered);
+                });
+                let of_model = self.tally.on(model_of(chain.run.model));
+                of_model.protected_steps.count(run_on);
                 Ok(())
             }
             Err(Failed::Machine(disagreement)) => Err(disagreement),
@@ -52,6 +60,7 @@ impl Comparison {
 /// What is wrong with a run on after so many inputs.
 fn told(run: &GeneratedRun, what: &str, before: u64) -> Disagreement {
     let mut text = format!("{KIND}: {what} after {before} inputs");
+    text += &format!("\n  model {}", run.model);
     for (name, area) in [
         ("chain", &run.chain),
         ("arguments", &run.arguments),

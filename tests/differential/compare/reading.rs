@@ -1,10 +1,13 @@
 //! One whole reading given to library and simulator, and demand 3 asked of the library.
 
-use super::{Comparison, Disagreement, Left, Sides};
+use super::{is_off_the_pack, is_sought_off_the_pack, Comparison, Disagreement, Left, Sides};
 use crate::arena::Arena;
+use crate::border_marks::Borders;
+use crate::calls::READING;
 use crate::demand::{self, Faultless};
 use crate::lendings::GeneratedReading;
 use crate::library::{self, ReadingAreas, RestartAreas, RunAreas, ACTION_5, ACTION_5A};
+use crate::models::model_of;
 use crate::random::Random;
 use crate::reading_marks::{marks_of, ReadingMark};
 use crate::simulator::channel::Ccw;
@@ -13,8 +16,7 @@ use crate::simulator::held::{READING_ANSWER, RECOVERY_ENTRY};
 use crate::simulator::reading::{read_watched, Areas, End, Lent, Reading, Recovery};
 use crate::simulator::recovery::RestartAction;
 use crate::simulator::run::Watch;
-use crate::simulator::{encode, run, LAST_CYLINDER};
-use crate::tally::READING;
+use crate::simulator::{encode, run, Refusal};
 
 /// The areas of a reading, in the order in which they are held here.
 const NAMES: [&str; 10] = [
@@ -47,17 +49,41 @@ impl ReadingLeft {
     }
 }
 
-/// Whether a command of a multitrack code was begun, done or not.
 #[derive(Default)]
-struct Multitrack(bool);
+struct Watched {
+    /// Whether a command of a multitrack code was begun, done or not.
+    is_multitrack: bool,
+    borders: Borders,
+}
 
-impl Watch for Multitrack {
-    fn command(&mut self, ccw: &Ccw, _: &[u8], _: &Result<Done, UnitCheck>, _: &Drive) {
-        self.0 |= is_multitrack(ccw.command);
+impl Watch for Watched {
+    fn command(
+        &mut self,
+        ccw: &Ccw,
+        argument: &[u8],
+        done: &Result<Done, UnitCheck>,
+        drive: &Drive,
+    ) {
+        self.is_multitrack |= is_multitrack(ccw.command);
+        self.borders.command(ccw, argument, done, drive);
     }
 }
 
 impl Comparison {
+    /// As `reading`, on a pack of either model.
+    pub fn reading_on_any(
+        &mut self,
+        kind: &'static str,
+        reading: &GeneratedReading,
+    ) -> Result<(), Disagreement> {
+        let model = self.any_model().number();
+        let reading = GeneratedReading {
+            model,
+            ..reading.clone()
+        };
+        self.reading(kind, &reading)
+    }
+
     /// Compares the answer, all areas and the bytes around them; then asks demand 3.
     pub fn reading(
         &mut self,
@@ -65,12 +91,13 @@ impl Comparison {
         reading: &GeneratedReading,
     ) -> Result<(), Disagreement> {
         let lent = lend(&mut Random::new(self.tally.compared), reading);
-        let mut multitrack = Multitrack::default();
-        let (by_simulator, read) = by_simulator(reading, lent.clone(), &mut multitrack);
+        let mut watched = Watched::default();
+        let (by_simulator, read) = by_simulator(reading, lent.clone(), &mut watched);
         let sides = Sides {
             names: &NAMES,
+            model: reading.model,
             limit: Some(reading.limit),
-            by_library: by_library(reading, lent.clone()),
+            by_library: by_library(reading, reading.model, lent.clone()),
             by_simulator,
             lent,
         };
@@ -78,11 +105,30 @@ impl Comparison {
         if !sides.agree() {
             return Err(sides.told(READING, kind, "disagreement", before));
         }
-        self.tally.count(READING, kind, sides.by_simulator.number);
+        let is_by_the_end = match &read {
+            Ok(Reading {
+                end: End::Run(end), ..
+            }) => is_sought_off_the_pack(*end),
+            Err(ReadingMark::Refused(refusal)) => is_off_the_pack(*refusal),
+            _ => false,
+        };
+        if !is_by_the_end {
+            let again = |model, arena| by_library(reading, model, arena);
+            if let Some(wrong) = self.wrong_on_model_11(&sides, again) {
+                return Err(sides.told(READING, kind, wrong, before));
+            }
+        }
+        let number = sides.by_simulator.number;
+        let of_model = self.tally.count_on(READING, kind, reading.model, number);
         let read = match read {
             Ok(read) => read,
             Err(refused) => {
-                self.tally.count_reading_marks([refused]);
+                if let Some(of_model) = of_model {
+                    of_model.count_reading_marks([refused]);
+                }
+                if let ReadingMark::Refused(refusal) = refused {
+                    self.see_areas(reading, Borders::default(), Some(refusal));
+                }
                 return Ok(());
             }
         };
@@ -93,12 +139,30 @@ impl Comparison {
                 return Err(sides.told(READING, kind, &what, before));
             }
         }
-        let Multitrack(is_multitrack) = multitrack;
-        self.tally
-            .count_reading(read.recoveries.len(), faultless.is_ok(), is_multitrack);
-        self.tally
-            .count_reading_marks(marks_of(reading, &read, &faultless));
+        let Watched {
+            is_multitrack,
+            mut borders,
+        } = watched;
+        borders.see_reading(&read, faultless.is_ok());
+        self.see_areas(reading, borders, None);
+        let of_model = self.tally.on(model_of(reading.model));
+        of_model.count_reading(read.recoveries.len(), faultless.is_ok(), is_multitrack);
+        of_model.count_reading_marks(marks_of(reading, &read, &faultless));
         Ok(())
+    }
+
+    /// Counts these borders with those of image and extent.
+    fn see_areas(
+        &mut self,
+        reading: &GeneratedReading,
+        borders: Borders,
+        refusal: Option<Refusal>,
+    ) {
+        self.see_borders(READING, reading.model, |seen, model| {
+            *seen = borders;
+            seen.see_image(model, &reading.image, refusal);
+            seen.see_extent(model, &reading.extent, refusal);
+        });
     }
 }
 
@@ -120,7 +184,7 @@ fn lend(random: &mut Random, reading: &GeneratedReading) -> ReadingArena {
     Arena::new(random, areas)
 }
 
-fn by_library(reading: &GeneratedReading, mut arena: ReadingArena) -> ReadingLeft {
+fn by_library(reading: &GeneratedReading, model: u8, mut arena: ReadingArena) -> ReadingLeft {
     let [chain, arguments, storage, image, faults, extent, program, restart_arguments, list, answer] =
         arena.lent();
     let areas = ReadingAreas {
@@ -138,7 +202,7 @@ fn by_library(reading: &GeneratedReading, mut arena: ReadingArena) -> ReadingLef
         },
         list,
     };
-    let number = library::read(areas, reading.limit, answer);
+    let number = library::read(model, areas, reading.limit, answer);
     Left { number, arena }
 }
 
@@ -154,6 +218,7 @@ fn by_simulator(
     let short_by = needed.saturating_sub(list.len());
     let lent = Lent {
         run: run::Lent {
+            model: reading.model,
             chain,
             arguments,
             image,
@@ -171,7 +236,7 @@ fn by_simulator(
     } else if short_by > 0 {
         (1, Err(ReadingMark::ListShortBy(short_by)))
     } else {
-        match read_watched(lent, areas, reading.limit, LAST_CYLINDER, watch) {
+        match read_watched(lent, areas, reading.limit, watch) {
             Ok(read) => (write(&read, list, answer), Ok(read)),
             Err(refusal) => (refusal.number(), Err(ReadingMark::Refused(refusal))),
         }

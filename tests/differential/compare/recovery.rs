@@ -1,7 +1,8 @@
 //! One recovery given to library and simulator.
 
-use super::{Comparison, Disagreement, Left, Sides};
+use super::{is_off_the_pack, Comparison, Disagreement, Left, Sides};
 use crate::arena::Arena;
+use crate::calls::RECOVER;
 use crate::in_place;
 use crate::library::{self, RecoveryAreas, RestartAreas, ACTION_5, ACTION_5A};
 use crate::overflow_marks;
@@ -11,12 +12,12 @@ use crate::reports::GeneratedRecovery;
 use crate::rest_of_read::InterruptedRead;
 use crate::simulator::held::RECOVERY_ANSWER;
 use crate::simulator::recovery::{
-    recover, recover_without_overflow, Answer, Areas, Lent, Recovered, RestartAction,
+    recover, recover_without_overflow, Answer, Areas, Lent, NotBuilt, Recovered, RestartAction,
 };
 use crate::simulator::report::Report;
 use crate::simulator::table::{row_of, Action, TABLE};
-use crate::simulator::{Refusal, LAST_CYLINDER};
-use crate::tally::RECOVER;
+use crate::simulator::Refusal;
+use crate::tally::OfModel;
 
 /// The areas of a recovery, in the order in which they are held here.
 const NAMES: [&str; 7] = [
@@ -54,62 +55,85 @@ impl Comparison {
         recovery: &GeneratedRecovery,
     ) -> Result<(RecoveryLeft, Option<Answer>), Disagreement> {
         let lent = lend(&mut Random::new(self.tally.compared), recovery);
-        let (by_simulator, recovered) = by_simulator(lent.clone(), recover);
-        self.count_marks(recovery, &by_simulator, recovered.as_ref());
+        let (by_simulator, recovered) = by_simulator(recovery.model, lent.clone(), recover);
         let sides = Sides {
             names: &NAMES,
+            model: recovery.model,
             limit: None,
-            by_library: by_library(lent.clone()),
+            by_library: by_library(recovery.model, lent.clone()),
             by_simulator,
             lent,
         };
-        let answer = recovered.and_then(|recovered| recovered.ok());
-        let answer = answer.map(|recovered| recovered.answer);
+        let answered = recovered
+            .as_ref()
+            .and_then(|recovered| recovered.as_ref().ok());
+        let answer = answered.map(|recovered| recovered.answer.clone());
+        let is_by_the_end = match &recovered {
+            Some(Ok(recovered)) => is_not_built_off_the_pack(&recovered.answer),
+            Some(Err(refusal)) => is_off_the_pack(*refusal),
+            None => false,
+        };
         let wrong = match sides.agree() {
             true => in_place::wrong(changed(&sides), corrects(&sides.by_library))
                 .or_else(|| wrong_beside_no_overflow(&sides))
-                .or_else(|| wrong_rest(recovery, answer.as_ref(), &sides.by_library)),
+                .or_else(|| wrong_rest(recovery, answer.as_ref(), &sides.by_library))
+                .or_else(|| match is_by_the_end {
+                    true => None,
+                    false => self.wrong_on_model_11(&sides, by_library),
+                }),
             false => Some("disagreement"),
         };
         if let Some(wrong) = wrong {
             return Err(sides.told(RECOVER, kind, wrong, self.tally.compared));
         }
-        self.tally.count(RECOVER, kind, sides.by_simulator.number);
+        let number = sides.by_simulator.number;
+        let of_model = self.tally.count_on(RECOVER, kind, recovery.model, number);
+        if let Some(of_model) = of_model {
+            count_marks(of_model, recovery, recovered.as_ref(), changed(&sides));
+        }
+        if let Some(recovered) = &recovered {
+            self.see_borders(RECOVER, recovery.model, |borders, model| {
+                let refusal = recovered.as_ref().err().copied();
+                borders.see_extent(model, &recovery.extent, refusal);
+                borders.see_recovery(recovery, recovered);
+            });
+        }
         Ok((sides.by_library, answer))
     }
+}
 
-    fn count_marks(
-        &mut self,
-        recovery: &GeneratedRecovery,
-        left: &RecoveryLeft,
-        recovered: Option<&Recovery>,
-    ) {
-        let Some(recovered) = recovered else {
-            let mark = RecoveryMark::AnswerArea(recovery.answer_length);
-            self.tally.count_recovery_marks([mark]);
-            self.tally.overflow.count(None);
-            return;
-        };
-        let changed = in_place::changed(&recovery.storage, left.arena.areas()[STORAGE]);
-        let marks = marks_of(recovery, recovered, changed);
-        self.tally.count_recovery_marks(marks);
-        let overflow = overflow_marks::marks_of(recovery, recovered);
-        self.tally.overflow.count(overflow);
-    }
+/// Of a recovery that changed so many bytes of storage.
+fn count_marks(
+    of_model: &mut OfModel,
+    recovery: &GeneratedRecovery,
+    recovered: Option<&Recovery>,
+    changed: usize,
+) {
+    let Some(recovered) = recovered else {
+        let mark = RecoveryMark::AnswerArea(recovery.answer_length);
+        of_model.count_recovery_marks([mark]);
+        of_model.overflow.count(None);
+        return;
+    };
+    of_model.count_recovery_marks(marks_of(recovery, recovered, changed));
+    let overflow = overflow_marks::marks_of(recovery, recovered);
+    of_model.overflow.count(overflow);
 }
 
 type Recovery = Result<Recovered, Refusal>;
 
 /// Nothing is told of the recovery where the area to answer in has another length.
 fn by_simulator(
+    model: u8,
     mut arena: RecoveryArena,
-    recover: fn(Lent, Areas, u16) -> Recovery,
+    recover: fn(Lent, Areas) -> Recovery,
 ) -> (RecoveryLeft, Option<Recovery>) {
     let [chain, report, extent, storage, program, restart_arguments, answer] = arena.lent();
     if answer.len() != RECOVERY_ANSWER {
         return (Left { number: 1, arena }, None);
     }
     let lent = Lent {
+        model,
         chain,
         report,
         extent,
@@ -119,7 +143,7 @@ fn by_simulator(
         program,
         restart_arguments,
     };
-    let recovered = recover(lent, areas, LAST_CYLINDER);
+    let recovered = recover(lent, areas);
     let number = match &recovered {
         Ok(recovered) => {
             answer.copy_from_slice(&written(&recovered.answer));
@@ -133,7 +157,8 @@ fn by_simulator(
 /// "Every report whose row gives another action gets its old answer": as where actions 9 and 11 are not
 /// built, of which the answer is number 7 unless an earlier question refuses.
 fn wrong_beside_no_overflow(sides: &Sides<7>) -> Option<&'static str> {
-    let (without, _) = by_simulator(sides.lent.clone(), recover_without_overflow);
+    let lent = sides.lent.clone();
+    let (without, _) = by_simulator(sides.model, lent, recover_without_overflow);
     let [_, report, ..] = sides.lent.areas();
     let is_overflow = matches!(action_of(report), Some(Action::Nine | Action::Eleven));
     if is_overflow && ![1, 5].contains(&without.number) {
@@ -142,6 +167,10 @@ fn wrong_beside_no_overflow(sides: &Sides<7>) -> Option<&'static str> {
     } else {
         (without != sides.by_library).then_some("another answer than without 9 and 11")
     }
+}
+
+fn is_not_built_off_the_pack(answer: &Answer) -> bool {
+    matches!(answer, Answer::NotBuilt(_, NotBuilt::OffThePack))
 }
 
 /// Of the row that a report matches.
@@ -196,7 +225,7 @@ fn lend(random: &mut Random, recovery: &GeneratedRecovery) -> RecoveryArena {
     Arena::new(random, areas)
 }
 
-fn by_library(mut arena: RecoveryArena) -> RecoveryLeft {
+fn by_library(model: u8, mut arena: RecoveryArena) -> RecoveryLeft {
     let [chain, report, extent, storage, program, arguments, answer] = arena.lent();
     let areas = RecoveryAreas {
         chain,
@@ -205,7 +234,7 @@ fn by_library(mut arena: RecoveryArena) -> RecoveryLeft {
         storage,
         restart: RestartAreas { program, arguments },
     };
-    let number = library::recover(areas, answer);
+    let number = library::recover(model, areas, answer);
     Left { number, arena }
 }
 

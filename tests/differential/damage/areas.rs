@@ -1,11 +1,11 @@
 //! Damage to the areas that a recovery and a reading have in common.
 
-use super::damaged_extent;
+use super::extent::{damaged_extent, KINDS};
 use crate::random::Random;
 
 /// In any way that an extent is damaged.
 pub fn damage_extent(random: &mut Random, extent: &mut Vec<u8>) {
-    let turn = random.below(16);
+    let turn = random.below(KINDS);
     *extent = damaged_extent(random, turn, extent).1;
 }
 

@@ -2,10 +2,11 @@
 
 use super::{damaged, ToFields};
 use crate::generate::{record, Draft, DraftField};
+use crate::models::{border_track, BORDERS};
 use crate::random::Random;
 use crate::simulator::encode;
+use crate::simulator::model::Model;
 use crate::simulator::pack::{TrackAddress, HOME_ADDRESS, LAST_HEAD, LONGEST_RECORD};
-use crate::simulator::LAST_CYLINDER;
 use std::ops::Range;
 
 /// An image damaged in one way. The draft has two tracks, each with two records after R0.
@@ -21,7 +22,7 @@ pub fn damaged_image(
     })
 }
 
-const IMAGE: [ToFields; 33] = [
+const IMAGE: [ToFields; 34] = [
     ("flag byte not 0", |random, draft| {
         home_address(random, draft)[0] = random.nonzero_byte();
     }),
@@ -46,20 +47,26 @@ const IMAGE: [ToFields; 33] = [
         let track = any_track(random, draft);
         draft.swap(track.start, track.start + 1);
     }),
-    ("at the last track of the pack", |_, draft| {
+    ("at the last track of a pack", |random, draft| {
+        let cylinder = random.pick(Model::ALL).last_cylinder();
         move_last_track(draft, |_| TrackAddress {
-            cylinder: LAST_CYLINDER,
+            cylinder,
             head: LAST_HEAD,
         });
     }),
-    ("cylinder one past the last", |_, draft| {
-        move_last_track(draft, |track| TrackAddress {
-            cylinder: LAST_CYLINDER + 1,
-            ..track
-        });
+    ("cylinder at the end of a pack", |random, draft| {
+        let cylinder = random.pick(&BORDERS);
+        move_last_track(draft, |track| TrackAddress { cylinder, ..track });
+    }),
+    ("one track, at the end of a pack", |random, draft| {
+        let last = tracks(draft).pop().expect("a track");
+        draft.drain(..last.start);
+        let track = border_track(random);
+        move_last_track(draft, |_| track);
     }),
     ("cylinder far past the last", |random, draft| {
-        let cylinder = random.within(usize::from(LAST_CYLINDER) + 2..=0xFFFF) as u16;
+        let [.., last] = BORDERS;
+        let cylinder = random.within(usize::from(last)..=0xFFFF) as u16;
         move_last_track(draft, |track| TrackAddress { cylinder, ..track });
     }),
     ("last head", |_, draft| {

@@ -1,9 +1,10 @@
-//! Areas and limits that question 1, 2, 3 or 5 answers no to, most of the time.
+//! Areas, limits and models that question 1, 2, 3 or 5 answers no to, most of the time.
 
 use super::{cut_twice, GeneratedReading};
 use crate::chains;
 use crate::damage::{self, damaged_faults, damaged_image};
 use crate::generate::{self, decoded, written};
+use crate::models::{self, model_of};
 use crate::random::Random;
 use crate::simulator::held::RECOVERY_ENTRY;
 
@@ -26,18 +27,39 @@ pub fn refused(random: &mut Random, turn: usize) -> (&'static str, GeneratedRead
     (kind, reading)
 }
 
+/// Image or fault list damaged, in each way in its turn.
+pub fn damaged(random: &mut Random, turn: usize) -> (&'static str, GeneratedReading) {
+    let mut reading = cut_twice(random, chains::planned_reads);
+    match turn % 2 {
+        0 => damage_image(random, turn / 2, &mut reading),
+        _ => damage_faults(random, turn / 2, &mut reading),
+    }
+    ("image or fault list damaged", reading)
+}
+
+fn damage_image(random: &mut Random, turn: usize, reading: &mut GeneratedReading) {
+    let draft = generate::ground(random, model_of(reading.model));
+    reading.image = damaged_image(random, turn, &draft).1;
+}
+
+fn damage_faults(random: &mut Random, turn: usize, reading: &mut GeneratedReading) {
+    let model = model_of(reading.model);
+    reading.image = written(&generate::ground(random, model));
+    let pack = decoded(model, &reading.image);
+    let draft = generate::faults(random, &pack);
+    reading.faults = damaged_faults(random, turn, &draft, &pack).1;
+}
+
 type ToAreas = (&'static str, fn(&mut Random, &mut GeneratedReading));
 
-const AREAS: [ToAreas; 11] = [
+const AREAS: [ToAreas; 12] = [
     ("image damaged", |random, reading| {
-        let (draft, turn) = (generate::ground(random), random.below(64));
-        reading.image = damaged_image(random, turn, &draft).1;
+        let turn = random.below(64);
+        damage_image(random, turn, reading);
     }),
     ("fault list damaged", |random, reading| {
-        reading.image = written(&generate::ground(random));
-        let pack = decoded(&reading.image);
-        let (draft, turn) = (generate::faults(random, &pack), random.below(64));
-        reading.faults = damaged_faults(random, turn, &draft, &pack).1;
+        let turn = random.below(64);
+        damage_faults(random, turn, reading);
     }),
     ("extent damaged", |random, reading| {
         damage::damage_extent(random, &mut reading.extent);
@@ -68,5 +90,9 @@ const AREAS: [ToAreas; 11] = [
     }),
     ("answer's length", |random, reading| {
         reading.answer_length = random.pick(&ANSWER_AREAS);
+    }),
+    ("no model, extent damaged", |random, reading| {
+        reading.model = models::any_other(random);
+        reading.extent.rotate_left(4);
     }),
 ];

@@ -4,17 +4,19 @@
 mod areas;
 
 pub use crate::simulator::held::HeldReading as GeneratedReading;
-pub use areas::{ANSWER_AREAS, LIST_SHORT_BY};
+pub use areas::{damaged, ANSWER_AREAS, LIST_SHORT_BY};
 
 use crate::chains::{self, steps, GeneratedRun};
 use crate::generate::{self, decoded, written};
+use crate::models::model_of;
 use crate::random::Random;
 use crate::simulator::faults::FaultList;
 use crate::simulator::held::RECOVERY_ENTRY;
 use crate::simulator::large::place_of;
+use crate::simulator::model::Model;
 use crate::simulator::pack::TrackAddress;
 use crate::simulator::run::{self, Outcome, Watch};
-use crate::simulator::{Refusal, LAST_CYLINDER};
+use crate::simulator::Refusal;
 
 impl GeneratedReading {
     /// With any bytes in restart areas, and a list as it must be or longer.
@@ -28,19 +30,20 @@ impl GeneratedReading {
         }
     }
 
-    /// The same chain, arguments, image and limit with no faults, over this storage.
+    /// The same model, chain, arguments, image and limit with no faults, over this storage.
     pub fn faultless(
         &self,
         storage: &mut [u8],
         watch: &mut impl Watch,
     ) -> Result<Outcome, Refusal> {
         let lent = run::Lent {
+            model: self.model,
             chain: &self.chain,
             arguments: &self.arguments,
             image: &self.image,
             faults: &[],
         };
-        run::run_watched(lent, storage, self.limit, LAST_CYLINDER, watch)
+        run::run_watched(lent, storage, self.limit, watch)
     }
 
     /// Its recoveries; it is not refused.
@@ -106,21 +109,22 @@ fn limit_at_recoveries(random: &mut Random) -> GeneratedReading {
 
 /// The run with such a list, and an extent.
 fn with_many_faults(random: &mut Random, mut run: GeneratedRun) -> (GeneratedRun, Vec<u8>) {
-    let pack = decoded(&run.image);
+    let model = model_of(run.model);
+    let pack = decoded(model, &run.image);
     let faults = written(&generate::many_faults(random, &pack));
     let list = FaultList::decode(&faults, &pack).expect("the list is well formed");
     let tracks: Vec<TrackAddress> = list.iter().map(|fault| fault.track).collect();
     run.faults = faults;
-    (run, extent_around(random, &tracks))
+    (run, extent_around(random, model, &tracks))
 }
 
 /// An extent in which these tracks, ascending, mostly lie, often at its edges.
-fn extent_around(random: &mut Random, tracks: &[TrackAddress]) -> Vec<u8> {
+fn extent_around(random: &mut Random, model: Model, tracks: &[TrackAddress]) -> Vec<u8> {
     let ends = [tracks.first(), tracks.last()];
     let [low, high] = ends.map(|track| track.copied().map_or(0, place_of));
-    let last = generate::TRACKS - 1;
+    let last = generate::tracks_of(model) - 1;
     let places = match random.below(16) {
-        0 => return generate::extent(random),
+        0 => return generate::extent(random, model),
         1 => [low, high.saturating_sub(1).max(low)],
         2 => [(low + 1).min(high), high],
         3..=6 => [low, high],
@@ -188,8 +192,9 @@ mod tests {
         let tracks = [3, 40, 700].map(track_at);
         let mut holds_all = 0;
         for _ in 0..160 {
-            let bytes = extent_around(&mut random, &tracks);
-            let extent = check_extent(&bytes, LAST_CYLINDER).expect("the extent is well formed");
+            let model = random.pick(Model::ALL);
+            let bytes = extent_around(&mut random, model, &tracks);
+            let extent = check_extent(model.number(), &bytes).expect("the extent is well formed");
             holds_all += usize::from(tracks.iter().all(|&track| extent.contains(track)));
         }
         assert!((100..160).contains(&holds_all));

@@ -257,10 +257,10 @@ pub struct Overflow {
     marks: BTreeSet<OverflowMark>,
 }
 
-/// Of each action, the fewest reports and the fewest with each mark that are enough; one report in four is
-/// answered by a restart.
+/// Of each action on packs of a model, the fewest reports and the fewest with each mark that are enough; one
+/// report in four is answered by a restart.
 const FEWEST: u64 = 50_000;
-const FEWEST_OF_EACH: u64 = 100;
+const FEWEST_OF_EACH: u64 = 50;
 const RESTART_ONCE_IN: u64 = 4;
 
 /// How many such reports were tried.

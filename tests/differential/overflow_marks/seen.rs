@@ -1,6 +1,7 @@
 //! Which marks a report that sends to action 9 or 11 has.
 
 use super::{Cause, Chaining, NoNext, Overflow, OverflowEvent, OverflowMark, OwnCause};
+use crate::models::model_of;
 use crate::recovery_marks::MaskKind;
 use crate::reports::GeneratedRecovery;
 use crate::simulator::channel::{
@@ -15,12 +16,13 @@ use crate::simulator::extent::Extent;
 use crate::simulator::interrupted::{
     next_cylinder, next_track, sought, track_reached, InterruptedRule,
 };
+use crate::simulator::model::Model;
 use crate::simulator::overflow::{OverflowRead, OverflowRule};
 use crate::simulator::pack::{TrackAddress, LAST_HEAD};
 use crate::simulator::recovery::{Answer, NotBuilt, Recovered, RestartAction, DATA_AREA_FORMAT};
 use crate::simulator::report::Report;
 use crate::simulator::table::{row_of, Action, TABLE};
-use crate::simulator::{Refusal, LAST_CYLINDER};
+use crate::simulator::Refusal;
 use std::collections::BTreeSet;
 
 /// The marks of a recovery, as it was lent, that the simulator has answered or refused; none where the
@@ -41,6 +43,7 @@ pub fn marks_of(
         _ => return None,
     };
     let case = Case {
+        model: model_of(recovery.model),
         recovery,
         report,
         action,
@@ -77,6 +80,7 @@ impl Marks {
 
 /// A report beside what it is judged by.
 struct Case<'a> {
+    model: Model,
     recovery: &'a GeneratedRecovery,
     report: Report,
     action: RestartAction,
@@ -221,7 +225,7 @@ impl Case<'_> {
 
     /// By the head sought, of tag 14, and by the head reached, of sense 6.
     fn by_heads(&self, marks: &mut Marks) {
-        let sought = sought(&self.report, LAST_CYLINDER).expect("a restart has a track sought");
+        let sought = sought(&self.report, self.model).expect("a restart has a track sought");
         let head = self.report.head_reached();
         if self.action == RestartAction::Nine {
             marks.meet_if(head > LAST_HEAD, OverflowEvent::HeadReachedAboveLast);
@@ -234,7 +238,7 @@ impl Case<'_> {
     }
 
     fn refused(&self, marks: &mut Marks) {
-        let sought = sought(&self.report, LAST_CYLINDER);
+        let sought = sought(&self.report, self.model);
         let track = sought.map(|sought| self.track(sought));
         let mut causes = Vec::new();
         match track {
@@ -265,9 +269,9 @@ impl Case<'_> {
     }
 
     fn not_built(&self, track: TrackAddress) -> Option<NotBuilt> {
-        let extent = Extent::decode(&self.recovery.extent, LAST_CYLINDER);
+        let extent = Extent::decode(&self.recovery.extent, self.model);
         let extent = extent.expect("question 5 was answered yes");
-        if !track.on_pack(LAST_CYLINDER) {
+        if !track.on_pack(self.model) {
             Some(NotBuilt::OffThePack)
         } else {
             (!extent.contains(track)).then_some(NotBuilt::OutsideTheExtent)
@@ -346,7 +350,7 @@ impl Case<'_> {
 mod tests {
     use super::*;
     use crate::simulator::encode::{self, ccw};
-    use crate::simulator::extent::WHOLE_PACK;
+    use crate::simulator::extent::whole_pack;
     use crate::simulator::report::HEAD_REACHED;
 
     const NINE: u8 = 0x21;
@@ -375,7 +379,7 @@ mod tests {
         };
         let recovery = GeneratedRecovery {
             chain: ccws.concat(),
-            extent: WHOLE_PACK.to_vec(),
+            extent: whole_pack(Model::One).to_vec(),
             storage: vec![0; 16],
             ..GeneratedRecovery::default()
         };

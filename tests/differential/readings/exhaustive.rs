@@ -5,16 +5,57 @@ use crate::compare::{Comparison, Disagreement};
 use crate::exhaustive::each_byte_at_each_value;
 use crate::generate::extent_of;
 use crate::lendings::GeneratedReading;
+use crate::models;
+use crate::simulator::extent::whole_pack;
 use crate::simulator::faults::Fault;
 use crate::simulator::held::RECOVERY_ENTRY;
-use crate::simulator::large::track_at;
+use crate::simulator::large::{place_of, track_at};
+use crate::simulator::pack::TrackAddress;
 use crate::simulator::{encode, sample};
 
 pub fn compare_all(comparison: &mut Comparison) -> Result<(), Disagreement> {
     each_byte(comparison)?;
     each_limit(comparison)?;
     each_length(comparison)?;
-    each_few_steps(comparison)
+    each_few_steps(comparison)?;
+    each_other_model(comparison)?;
+    each_border_track(comparison)
+}
+
+/// The sample on each track at the end of a pack; the same track sought, then in the extent alone, though
+/// the image does not have it.
+fn each_border_track(comparison: &mut Comparison) -> Result<(), Disagreement> {
+    for (model, track) in models::border_tracks() {
+        let mut reading = GeneratedReading {
+            model: model.number(),
+            ..sample::on_track(track)
+        };
+        let extent = reading.extent.clone();
+        reading.extent = whole_pack(model).to_vec();
+        comparison.reading("each border track", &reading)?;
+        reading.image.clear();
+        reading.faults.clear();
+        comparison.reading("each border track sought", &reading)?;
+        reading.extent = extent;
+        comparison.reading("each border track as extent", &reading)?;
+    }
+    Ok(())
+}
+
+/// The sample, and where other questions refuse too.
+fn each_other_model(comparison: &mut Comparison) -> Result<(), Disagreement> {
+    for model in models::others() {
+        let mut reading = GeneratedReading {
+            model,
+            ..both_faulted()
+        };
+        comparison.reading("no model", &reading)?;
+        reading.image.pop();
+        reading.faults.pop();
+        reading.extent.fill(0xFF);
+        comparison.reading("no model, all else damaged", &reading)?;
+    }
+    Ok(())
 }
 
 /// Document 01's sample with a fault in R2 besides, so that both reads are cut.
@@ -49,7 +90,7 @@ fn each_byte(comparison: &mut Comparison) -> Result<(), Disagreement> {
         let bytes = area(&mut reading).clone();
         for changed in each_byte_at_each_value(&bytes) {
             *area(&mut reading) = changed;
-            comparison.reading("two heads, one byte set", &reading)?;
+            comparison.reading_on_any("two heads, one byte set", &reading)?;
         }
     }
     Ok(())
@@ -61,9 +102,9 @@ fn each_limit(comparison: &mut Comparison) -> Result<(), Disagreement> {
         let mut reading = both_faulted();
         reading.limit = limit;
         reading.list_length = RECOVERY_ENTRY * limit.min(4_097);
-        comparison.reading("sample, each limit", &reading)?;
+        comparison.reading_on_any("sample, each limit", &reading)?;
         reading.faults.clear();
-        comparison.reading("sample, each limit", &reading)?;
+        comparison.reading_on_any("sample, each limit", &reading)?;
     }
     Ok(())
 }
@@ -108,25 +149,30 @@ fn each_length(comparison: &mut Comparison) -> Result<(), Disagreement> {
         for length in 0..=longest {
             let mut reading = both_faulted();
             set_length(&mut reading, length);
-            comparison.reading(kind, &reading)?;
+            comparison.reading_on_any(kind, &reading)?;
         }
     }
     Ok(())
 }
 
 /// Every sequence of three steps over R0 and R1, of five over R0, R1 and R2, and of five over heads 16
-/// to 18, head 17 with R0 alone.
+/// to 18, head 17 with R0 alone, on the first cylinder or at the end of a pack.
 fn each_few_steps(comparison: &mut Comparison) -> Result<(), Disagreement> {
     for steps in every(3, &FEW) {
         let reading = all_faulted(0, &[1], &steps);
-        comparison.reading("each three steps, R0 and R1", &reading)?;
+        comparison.reading_on_any("each three steps, R0 and R1", &reading)?;
     }
     for steps in every(5, &FEW) {
         let reading = all_faulted(0, &[2], &steps);
-        comparison.reading("each five steps, R0, R1 and R2", &reading)?;
+        comparison.reading_on_any("each five steps, R0, R1 and R2", &reading)?;
     }
     for steps in every(5, &FEW_OVER_HEADS) {
-        let reading = all_faulted(16, &[1, 0, 1], &steps);
+        let (model, cylinder) = comparison.any_cylinder();
+        let first = place_of(TrackAddress { cylinder, head: 16 });
+        let reading = GeneratedReading {
+            model: model.number(),
+            ..all_faulted(first, &[1, 0, 1], &steps)
+        };
         comparison.reading("each five steps over heads", &reading)?;
     }
     Ok(())

@@ -7,8 +7,9 @@ use crate::lendings::GeneratedReading;
 use crate::limits::{faults_of_last_records, MOST_FAULTS};
 use crate::simulator::channel::CCW_LENGTH;
 use crate::simulator::encode::{self, ccw};
-use crate::simulator::extent::WHOLE_PACK;
+use crate::simulator::extent::whole_pack;
 use crate::simulator::large::{cylinder_of, image_of, track_of, TracksOf};
+use crate::simulator::model::Model;
 use crate::simulator::pack::LONGEST_RECORD;
 use crate::simulator::sample;
 
@@ -17,25 +18,35 @@ const LONGEST_STORAGE: usize = 65_536;
 const LONGEST_CHAIN: usize = 2_048;
 
 pub fn compare_all(comparison: &mut Comparison) -> Result<(), Disagreement> {
+    Model::ALL
+        .iter()
+        .try_for_each(|model| compare_on(comparison, model.number()))
+}
+
+fn compare_on(comparison: &mut Comparison, model: u8) -> Result<(), Disagreement> {
+    let mut compare = |kind, reading| {
+        let reading = GeneratedReading { model, ..reading };
+        comparison.reading(kind, &reading)
+    };
     for how_many in [9, 99, 254, 255, 256] {
-        comparison.reading("reads, all cut", &reads(how_many))?;
+        compare("reads, all cut", reads(how_many))?;
     }
-    comparison.reading("2,048 recoveries", &round(16, 1))?;
-    comparison.reading("4,096 recoveries", &round(32, 1))?;
-    comparison.reading("4,096 recoveries, one more cut", &round(32, 2))?;
+    compare("2,048 recoveries", round(16, 1))?;
+    compare("4,096 recoveries", round(32, 1))?;
+    compare("4,096 recoveries, one more cut", round(32, 2))?;
     for before in 1..=4 {
-        comparison.reading("restarted run to its limit", &endless_behind(before))?;
+        compare("restarted run to its limit", endless_behind(before))?;
     }
     for ccws in [1, 2, 200, 254] {
-        comparison.reading("long records", &long_records(ccws))?;
+        compare("long records", long_records(ccws))?;
     }
-    comparison.reading("19 heads, all cut", &heads())?;
-    comparison.reading("5,041 faults", &most_faults())?;
-    comparison.reading("full image", &full_image())?;
+    compare("19 heads, all cut", heads())?;
+    compare("5,041 faults", most_faults())?;
+    compare("full image", full_image())?;
     for (name, lengthen) in LONGER {
         let mut reading = reads(4);
         lengthen(&mut reading);
-        comparison.reading(name, &reading)?;
+        compare(name, reading)?;
     }
     Ok(())
 }
@@ -45,9 +56,9 @@ fn over(image: Vec<u8>, faulted: usize, ccws: &[[u8; CCW_LENGTH]]) -> GeneratedR
     GeneratedReading {
         chain: ccws.concat(),
         storage: vec![0xEE; LONGEST_STORAGE],
-        faults: faults_of_last_records(&decoded(&image), faulted),
+        faults: faults_of_last_records(&decoded(Model::One, &image), faulted),
         image,
-        extent: WHOLE_PACK.to_vec(),
+        extent: whole_pack(Model::One).to_vec(),
         ..GeneratedReading::default()
     }
 }
@@ -136,7 +147,7 @@ fn full_image() -> GeneratedReading {
         ccw(0x1E, 96, 0, 56),
     ];
     let image = image_of(LONGEST_IMAGE, TracksOf::TWO_RECORDS);
-    let pack = decoded(&image);
+    let pack = decoded(Model::One, &image);
     let tracks: Vec<_> = pack.tracks().map(|(track, _)| track).collect();
     let track = encode::track_address(tracks[tracks.len() - 2]);
     GeneratedReading {

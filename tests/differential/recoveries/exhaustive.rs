@@ -1,32 +1,39 @@
 //! Small recoveries of which every one of a kind is tried.
 
 use crate::compare::{Comparison, Disagreement};
-use crate::exhaustive::each_byte_at_each_value;
+use crate::generate::tracks_of;
+use crate::models::{self, borders_on};
 use crate::reports::GeneratedRecovery;
-use crate::simulator::encode;
-use crate::simulator::extent::WHOLE_PACK;
+use crate::simulator::drive::READ_COUNT;
+use crate::simulator::extent::whole_pack;
 use crate::simulator::large::track_at;
+use crate::simulator::model::Model;
 use crate::simulator::pack::{TrackAddress, LAST_HEAD};
 use crate::simulator::report::Report;
 use crate::simulator::table::TABLE;
-use crate::simulator::{sample, LAST_CYLINDER};
+use crate::simulator::{encode, sample};
 use std::collections::BTreeSet;
 
 pub fn compare_all(comparison: &mut Comparison) -> Result<(), Disagreement> {
-    for base in [
-        recovery(&sample_report(), &sample::EXTENT),
-        recovery(&sent_to([0, 0x20, 0], 0x20), &WHOLE_PACK),
-        recovery(&sent_to([0, 0x04, 0], 0x08), &WHOLE_PACK),
-        recovery(&sent_to([0, 0x04, 0], 0x20), &WHOLE_PACK),
-    ] {
-        each_byte(comparison, OF_SAMPLE, &base)?;
-        each_length(comparison, OF_SAMPLE, &base)?;
+    let bases: [fn(Model) -> GeneratedRecovery; 4] = [
+        |model| recovery(model, &sample_report(), &sample::EXTENT),
+        |model| on_whole_pack(model, &sent_to([0, 0x20, 0], 0x20)),
+        |model| on_whole_pack(model, &sent_to([0, 0x04, 0], 0x08)),
+        |model| on_whole_pack(model, &sent_to([0, 0x04, 0], 0x20)),
+    ];
+    for base in bases {
+        each_byte(comparison, OF_SAMPLE, base)?;
+        each_length(comparison, OF_SAMPLE, base)?;
+        each_other_model(comparison, base)?;
     }
     each_combination(comparison)?;
     each_mask(comparison)?;
     each_tries(comparison)?;
-    each_track(comparison)?;
-    each_sense_6(comparison)?;
+    for &model in Model::ALL {
+        each_track(comparison, model)?;
+        each_sense_6(comparison, model)?;
+    }
+    each_border_track(comparison)?;
     each_command_behind(comparison)?;
     each_place(comparison)
 }
@@ -55,8 +62,13 @@ fn sent_to(front: [u8; 3], address: u8) -> Report {
     report
 }
 
-fn recovery(report: &Report, extent: &[u8]) -> GeneratedRecovery {
+fn on_whole_pack(model: Model, report: &Report) -> GeneratedRecovery {
+    recovery(model, report, &whole_pack(model))
+}
+
+fn recovery(model: Model, report: &Report, extent: &[u8]) -> GeneratedRecovery {
     GeneratedRecovery {
+        model: model.number(),
         chain: sample::CHAIN.to_vec(),
         report: encode::report(report),
         extent: extent.to_vec(),
@@ -79,11 +91,11 @@ const OF_SAMPLE: Kinds = Kinds {
     storage_cut: "sample, storage cut",
 };
 
-/// Each byte of each area that is only read at each value.
+/// Each byte of each area that is only read at each value, on a pack of either model.
 pub fn each_byte(
     comparison: &mut Comparison,
     kinds: Kinds,
-    recovery: &GeneratedRecovery,
+    base: impl Fn(Model) -> GeneratedRecovery,
 ) -> Result<(), Disagreement> {
     type Area = fn(&mut GeneratedRecovery) -> &mut Vec<u8>;
     let areas: [Area; 3] = [
@@ -92,10 +104,11 @@ pub fn each_byte(
         |recovery| &mut recovery.extent,
     ];
     for area in areas {
-        let mut recovery = recovery.clone();
-        let bytes = area(&mut recovery).clone();
-        for changed in each_byte_at_each_value(&bytes) {
-            *area(&mut recovery) = changed;
+        // As many on each model.
+        let bytes = area(&mut base(Model::One)).len();
+        for (at, value) in (0..bytes).flat_map(|at| (0..=255).map(move |value| (at, value))) {
+            let mut recovery = base(comparison.any_model());
+            area(&mut recovery)[at] = value;
             comparison.recovery(kinds.byte_set, &recovery)?;
         }
     }
@@ -106,17 +119,36 @@ pub fn each_byte(
 pub fn each_length(
     comparison: &mut Comparison,
     kinds: Kinds,
-    recovery: &GeneratedRecovery,
+    base: impl Fn(Model) -> GeneratedRecovery,
 ) -> Result<(), Disagreement> {
-    for length in 0..=recovery.report.len() {
-        let mut recovery = recovery.clone();
-        recovery.report.truncate(length);
-        comparison.recovery(kinds.report_cut, &recovery)?;
+    for &model in Model::ALL {
+        let recovery = base(model);
+        for length in 0..=recovery.report.len() {
+            let mut recovery = recovery.clone();
+            recovery.report.truncate(length);
+            comparison.recovery(kinds.report_cut, &recovery)?;
+        }
+        for length in 0..=recovery.storage.len() {
+            let mut recovery = recovery.clone();
+            recovery.storage.truncate(length);
+            comparison.recovery(kinds.storage_cut, &recovery)?;
+        }
     }
-    for length in 0..=recovery.storage.len() {
-        let mut recovery = recovery.clone();
-        recovery.storage.truncate(length);
-        comparison.recovery(kinds.storage_cut, &recovery)?;
+    Ok(())
+}
+
+/// As it is, and where other questions refuse too.
+pub fn each_other_model(
+    comparison: &mut Comparison,
+    base: impl Fn(Model) -> GeneratedRecovery,
+) -> Result<(), Disagreement> {
+    for number in models::others() {
+        let mut recovery = base(Model::Eleven);
+        recovery.model = number;
+        comparison.recovery("no model", &recovery)?;
+        recovery.extent.rotate_left(4);
+        recovery.report.pop();
+        comparison.recovery("no model, extent and report damaged", &recovery)?;
     }
     Ok(())
 }
@@ -133,7 +165,8 @@ fn each_combination(comparison: &mut Comparison) -> Result<(), Disagreement> {
         }
         for tries in [0, 9, 10] {
             report.tries = tries;
-            comparison.recovery("each combination of bits", &recovery(&report, &WHOLE_PACK))?;
+            let recovery = on_whole_pack(comparison.any_model(), &report);
+            comparison.recovery("each combination of bits", &recovery)?;
         }
     }
     Ok(())
@@ -148,7 +181,8 @@ fn each_mask(comparison: &mut Comparison) -> Result<(), Disagreement> {
     ] {
         for mask in (0..=255).map(Some).chain([None]) {
             report.mask = mask;
-            comparison.recovery("each mask", &recovery(&report, &WHOLE_PACK))?;
+            let recovery = on_whole_pack(comparison.any_model(), &report);
+            comparison.recovery("each mask", &recovery)?;
         }
     }
     Ok(())
@@ -163,7 +197,8 @@ fn each_tries(comparison: &mut Comparison) -> Result<(), Disagreement> {
         }
         for tries in 0..=255 {
             report.tries = tries;
-            comparison.recovery("each number of tries", &recovery(&report, &WHOLE_PACK))?;
+            let recovery = on_whole_pack(comparison.any_model(), &report);
+            comparison.recovery("each number of tries", &recovery)?;
         }
     }
     Ok(())
@@ -171,12 +206,12 @@ fn each_tries(comparison: &mut Comparison) -> Result<(), Disagreement> {
 
 /// Each track of the pack, and some behind it, in tag 14 and in the sense, its head in sense 6 too;
 /// every third in an extent that ends with it.
-fn each_track(comparison: &mut Comparison) -> Result<(), Disagreement> {
-    let heads = usize::from(LAST_HEAD) + 1;
-    for place in 0..(usize::from(LAST_CYLINDER) + 2) * heads {
+fn each_track(comparison: &mut Comparison, model: Model) -> Result<(), Disagreement> {
+    let behind = usize::from(LAST_HEAD) + 1;
+    for place in 0..tracks_of(model) + behind {
         let address = encode::track_address(track_at(place));
-        let mut extent = WHOLE_PACK;
-        if place % 3 == 0 && place < (usize::from(LAST_CYLINDER) + 1) * heads {
+        let mut extent = whole_pack(model);
+        if place % 3 == 0 && place < tracks_of(model) {
             extent[4..].copy_from_slice(&address);
         }
         for mut report in [
@@ -189,30 +224,60 @@ fn each_track(comparison: &mut Comparison) -> Result<(), Disagreement> {
             let [c0, c1, h0, h1] = address;
             report.sense[6] = h1;
             report.seek_argument = Some([0, 0, c0, c1, h0, h1]);
-            comparison.recovery("each track", &recovery(&report, &extent))?;
+            comparison.recovery("each track", &recovery(model, &report, &extent))?;
         }
     }
     Ok(())
 }
 
-/// Each value of sense 6 with heads of tag 14 that differ from it, on the first cylinder and at the end of
-/// the pack, for each action that asks for tag 14.
-fn each_sense_6(comparison: &mut Comparison) -> Result<(), Disagreement> {
-    let tracks = [0, LAST_CYLINDER - 1, LAST_CYLINDER].map(|cylinder| {
-        let heads = [0, 1, LAST_HEAD - 1, LAST_HEAD, LAST_HEAD + 1];
-        heads.map(|head| TrackAddress { cylinder, head })
-    });
+/// Each track at the end of a pack in tag 14 and in the sense, the last head reached or another; and as
+/// extent. Action 5 besides, where the next command has bit 3 on.
+fn each_border_track(comparison: &mut Comparison) -> Result<(), Disagreement> {
+    for (model, track) in models::border_tracks() {
+        let address = encode::track_address(track);
+        for front in [[0x08, 0, 0x40], [0, 0x20, 0], [0, 0x04, 0]] {
+            for at in [0x08, 0x20] {
+                for head in [0, LAST_HEAD] {
+                    let mut report = sent_to(front, at);
+                    report.sense[8..12].copy_from_slice(&address);
+                    report.sense[6] = head as u8;
+                    let [c0, c1, h0, h1] = address;
+                    report.seek_argument = Some([0, 0, c0, c1, h0, h1]);
+                    let mut recovery = on_whole_pack(model, &report);
+                    comparison.recovery("each border track", &recovery)?;
+                    recovery.chain[0x20] = READ_COUNT;
+                    comparison.recovery("each border track", &recovery)?;
+                    recovery.extent = [address; 2].concat();
+                    comparison.recovery("each border track as extent", &recovery)?;
+                }
+            }
+        }
+    }
+    Ok(())
+}
+
+/// Each value of sense 6 with heads of tag 14 that differ from it, on the first cylinder, at the end of the
+/// pack and where one of another model ends, for each action that asks for tag 14.
+fn each_sense_6(comparison: &mut Comparison, model: Model) -> Result<(), Disagreement> {
+    let cylinders = [0, model.last_cylinder() - 1];
+    let cylinders = cylinders.iter().chain(borders_on(model));
+    let tracks: Vec<TrackAddress> = cylinders
+        .flat_map(|&cylinder| {
+            let heads = [0, 1, LAST_HEAD - 1, LAST_HEAD, LAST_HEAD + 1];
+            heads.map(|head| TrackAddress { cylinder, head })
+        })
+        .collect();
     for mut report in [
         sent_to([0, 0x20, 0], 0x20),
         sent_to([0, 0x04, 0], 0x08),
         sent_to([0, 0x04, 0], 0x20),
     ] {
-        for &track in tracks.as_flattened() {
+        for &track in &tracks {
             let [c0, c1, h0, h1] = encode::track_address(track);
             report.seek_argument = Some([0, 0, c0, c1, h0, h1]);
             for sense_6 in 0..=255 {
                 report.sense[6] = sense_6;
-                comparison.recovery("each sense 6", &recovery(&report, &WHOLE_PACK))?;
+                comparison.recovery("each sense 6", &on_whole_pack(model, &report))?;
             }
         }
     }
@@ -223,12 +288,12 @@ fn each_sense_6(comparison: &mut Comparison) -> Result<(), Disagreement> {
 fn each_command_behind(comparison: &mut Comparison) -> Result<(), Disagreement> {
     for command in 0..=255 {
         for target in [0x00, 0x10, 0x18, 0x20, 0x24, 0x28] {
-            let mut cut = recovery(&sample_report(), &WHOLE_PACK);
+            let mut cut = on_whole_pack(comparison.any_model(), &sample_report());
             cut.chain[0x20] = command;
             cut.chain[0x23] = target;
             comparison.recovery("each command behind", &cut)?;
             let interrupted = sent_to([0, 0x04, 0], 0x08);
-            let mut interrupted = recovery(&interrupted, &WHOLE_PACK);
+            let mut interrupted = on_whole_pack(comparison.any_model(), &interrupted);
             interrupted.chain[0x08] = command;
             interrupted.chain[0x0B] = target;
             comparison.recovery("each command behind", &interrupted)?;
@@ -260,7 +325,7 @@ fn each_place(comparison: &mut Comparison) -> Result<(), Disagreement> {
                 let count_left = 10_u8.saturating_sub(restart);
                 report.csw = [0, 0, 0, 0x18, 0x0E, 0, 0, count_left];
                 report.mask = None;
-                let mut recovery = recovery(&report, &WHOLE_PACK);
+                let mut recovery = on_whole_pack(comparison.any_model(), &report);
                 recovery.chain = chain.concat();
                 comparison.recovery("each place of an error", &recovery)?;
             }

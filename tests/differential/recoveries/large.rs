@@ -5,12 +5,23 @@ use crate::reports::GeneratedRecovery;
 use crate::simulator::channel::CCW_LENGTH;
 use crate::simulator::cut::LONGEST_READ;
 use crate::simulator::encode;
+use crate::simulator::model::Model;
 use crate::simulator::report::Report;
 
 const LONGEST_STORAGE: usize = 65_536;
 const LONGEST_CHAIN: usize = 2_048;
 
 pub fn compare_all(comparison: &mut Comparison) -> Result<(), Disagreement> {
+    Model::ALL
+        .iter()
+        .try_for_each(|model| compare_on(comparison, model.number()))
+}
+
+fn compare_on(comparison: &mut Comparison, model: u8) -> Result<(), Disagreement> {
+    let mut compare = |kind, recovery| {
+        let recovery = GeneratedRecovery { model, ..recovery };
+        comparison.recovery(kind, &recovery)
+    };
     for error in [
         1,
         2,
@@ -23,17 +34,17 @@ pub fn compare_all(comparison: &mut Comparison) -> Result<(), Disagreement> {
         LONGEST_READ - 1,
         LONGEST_READ,
     ] {
-        comparison.recovery("13,038 bytes by one CCW", &one_ccw(LONGEST_READ, error))?;
-        comparison.recovery("13,039 bytes by one CCW", &one_ccw(LONGEST_READ + 1, error))?;
+        compare("13,038 bytes by one CCW", one_ccw(LONGEST_READ, error))?;
+        compare("13,039 bytes by one CCW", one_ccw(LONGEST_READ + 1, error))?;
         for step in [0, 1, 2, 51, 200] {
-            comparison.recovery("256 CCWs in a read", &many_ccws(step, error.min(13_005)))?;
+            compare("256 CCWs in a read", many_ccws(step, error.min(13_005)))?;
         }
-        comparison.recovery("13,038 CCWs in a read", &round(error))?;
+        compare("13,038 CCWs in a read", round(error))?;
     }
     for (name, lengthen) in LONGER {
         let mut recovery = many_ccws(200, 3);
         lengthen(&mut recovery);
-        comparison.recovery(name, &recovery)?;
+        compare(name, recovery)?;
     }
     Ok(())
 }

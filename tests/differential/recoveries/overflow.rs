@@ -1,19 +1,21 @@
 //! Reports that send to actions 9 and 11: small ones of which every one of a kind is tried, generated ones,
 //! and reads as long as a displacement can tell.
 
-use super::exhaustive::{each_byte, each_length, Kinds};
+use super::exhaustive::{each_byte, each_length, each_other_model, Kinds};
 use crate::compare::{Comparison, Disagreement};
+use crate::generate::tracks_of;
+use crate::models::{border_tracks, borders_on};
 use crate::random::Random;
 use crate::reports::{overflow, GeneratedRecovery};
 use crate::simulator::channel::{
     CCW_LENGTH, FLAG_CHAIN_COMMAND, FLAG_CHAIN_DATA, FLAG_SKIP, FLAG_SUPPRESS_LENGTH,
 };
 use crate::simulator::encode::{self, ccw};
-use crate::simulator::extent::WHOLE_PACK;
+use crate::simulator::extent::whole_pack;
 use crate::simulator::large::track_at;
+use crate::simulator::model::Model;
 use crate::simulator::pack::{TrackAddress, LAST_HEAD};
 use crate::simulator::report::Report;
-use crate::simulator::LAST_CYLINDER;
 
 /// Data chains generated. Each is reported as it is and with a change; every kind of change is made in its
 /// turn, at least 120 times for each action.
@@ -22,11 +24,15 @@ const TURNS: usize = 50_000;
 pub fn compare_all(comparison: &mut Comparison, random: &mut Random) -> Result<(), Disagreement> {
     for sense_1 in [NINE, ELEVEN] {
         let base = reported(sense_1, &CHAIN, PART_READ);
-        each_byte(comparison, KINDS, &base.recovery(&WHOLE_PACK))?;
-        each_length(comparison, KINDS, &base.recovery(&WHOLE_PACK))?;
+        each_byte(comparison, KINDS, |model| base.recovery(model))?;
+        each_length(comparison, KINDS, |model| base.recovery(model))?;
+        each_other_model(comparison, |model| base.recovery(model))?;
         each_mask(comparison, &base)?;
-        each_track(comparison, &base)?;
-        each_sense_6(comparison, &base)?;
+        for &model in Model::ALL {
+            each_track(comparison, &base, model)?;
+            each_sense_6(comparison, &base, model)?;
+        }
+        each_border_track(comparison, &base)?;
         each_command_behind(comparison, sense_1)?;
         each_pair_of_flags(comparison, sense_1)?;
         each_end(comparison, sense_1)?;
@@ -84,11 +90,13 @@ struct Reported {
 }
 
 impl Reported {
-    fn recovery(&self, extent: &[u8]) -> GeneratedRecovery {
+    /// In an extent of the whole pack.
+    fn recovery(&self, model: Model) -> GeneratedRecovery {
         GeneratedRecovery {
+            model: model.number(),
             chain: self.chain.clone(),
             report: encode::report(&self.report),
-            extent: extent.to_vec(),
+            extent: whole_pack(model).to_vec(),
             storage: vec![0xEE; self.storage],
             ..GeneratedRecovery::default()
         }
@@ -125,7 +133,7 @@ fn reported(sense_1: u8, ccws: &[[u8; CCW_LENGTH]], at: At) -> Reported {
 /// None, and each mask.
 fn each_mask(comparison: &mut Comparison, base: &Reported) -> Result<(), Disagreement> {
     for mask in (0..=255).map(Some).chain([None]) {
-        let mut recovery = base.recovery(&WHOLE_PACK);
+        let mut recovery = base.recovery(comparison.any_model());
         let report = Report {
             mask,
             ..base.report.clone()
@@ -138,32 +146,55 @@ fn each_mask(comparison: &mut Comparison, base: &Reported) -> Result<(), Disagre
 
 /// Each track of the pack, and some behind it, in tag 14, its head in sense 6 too; every third in an extent
 /// that ends with it.
-fn each_track(comparison: &mut Comparison, base: &Reported) -> Result<(), Disagreement> {
-    let heads = usize::from(LAST_HEAD) + 1;
+fn each_track(
+    comparison: &mut Comparison,
+    base: &Reported,
+    model: Model,
+) -> Result<(), Disagreement> {
+    let behind = usize::from(LAST_HEAD) + 1;
     let mut reported = reported(base.report.sense[1], &CHAIN, PART_READ);
-    for place in 0..(usize::from(LAST_CYLINDER) + 2) * heads {
+    for place in 0..tracks_of(model) + behind {
         let track = track_at(place);
-        let mut extent = WHOLE_PACK;
-        if place % 3 == 0 && place < (usize::from(LAST_CYLINDER) + 1) * heads {
-            extent[4..].copy_from_slice(&encode::track_address(track));
-        }
         reported.set_track(track);
         reported.report.sense[6] = track.head as u8;
-        comparison.recovery("overflow record, each track", &reported.recovery(&extent))?;
+        let mut recovery = reported.recovery(model);
+        if place % 3 == 0 && place < tracks_of(model) {
+            recovery.extent[4..].copy_from_slice(&encode::track_address(track));
+        }
+        comparison.recovery("overflow record, each track", &recovery)?;
     }
     Ok(())
 }
 
-/// Each value of sense 6 with heads of tag 14 that differ from it, on the first cylinder and at the end of
-/// the pack.
-fn each_sense_6(comparison: &mut Comparison, base: &Reported) -> Result<(), Disagreement> {
+/// Each track at the end of a pack in tag 14, the last head reached or another.
+fn each_border_track(comparison: &mut Comparison, base: &Reported) -> Result<(), Disagreement> {
     let mut reported = reported(base.report.sense[1], &CHAIN, PART_READ);
-    for cylinder in [0, LAST_CYLINDER - 1, LAST_CYLINDER] {
+    for (model, track) in border_tracks() {
+        reported.set_track(track);
+        for head in [0, LAST_HEAD] {
+            reported.report.sense[6] = head as u8;
+            let recovery = reported.recovery(model);
+            comparison.recovery("overflow record, each border track", &recovery)?;
+        }
+    }
+    Ok(())
+}
+
+/// Each value of sense 6 with heads of tag 14 that differ from it, on the first cylinder, at the end of the
+/// pack and where one of another model ends.
+fn each_sense_6(
+    comparison: &mut Comparison,
+    base: &Reported,
+    model: Model,
+) -> Result<(), Disagreement> {
+    let mut reported = reported(base.report.sense[1], &CHAIN, PART_READ);
+    let cylinders = [0, model.last_cylinder() - 1];
+    for &cylinder in cylinders.iter().chain(borders_on(model)) {
         for head in [0, LAST_HEAD, LAST_HEAD + 1] {
             reported.set_track(TrackAddress { cylinder, head });
             for sense_6 in 0..=255 {
                 reported.report.sense[6] = sense_6;
-                let recovery = reported.recovery(&WHOLE_PACK);
+                let recovery = reported.recovery(model);
                 comparison.recovery("overflow record, each sense 6", &recovery)?;
             }
         }
@@ -180,7 +211,7 @@ fn each_command_behind(comparison: &mut Comparison, sense_1: u8) -> Result<(), D
                 ccws[3][4] = flags;
                 ccws[4][0] = command;
                 ccws[4][3] = target;
-                let recovery = reported(sense_1, &ccws, PART_READ).recovery(&WHOLE_PACK);
+                let recovery = reported(sense_1, &ccws, PART_READ).recovery(comparison.any_model());
                 comparison.recovery("overflow record, each command behind", &recovery)?;
             }
         }
@@ -211,7 +242,7 @@ fn each_pair_of_flags(comparison: &mut Comparison, sense_1: u8) -> Result<(), Di
                 ccw: at.0,
                 left: at.1,
             };
-            let recovery = reported(sense_1, &ccws, at).recovery(&WHOLE_PACK);
+            let recovery = reported(sense_1, &ccws, at).recovery(comparison.any_model());
             comparison.recovery("overflow record, each pair of flags", &recovery)?;
         }
     }
@@ -235,7 +266,7 @@ fn each_end(comparison: &mut Comparison, sense_1: u8) -> Result<(), Disagreement
                         ccw: place * CCW_LENGTH,
                         left,
                     };
-                    let recovery = reported(sense_1, &ccws, at).recovery(&WHOLE_PACK);
+                    let recovery = reported(sense_1, &ccws, at).recovery(comparison.any_model());
                     comparison.recovery("overflow record, each end", &recovery)?;
                 }
             }
@@ -259,7 +290,7 @@ fn long_reads(comparison: &mut Comparison, sense_1: u8) -> Result<(), Disagreeme
             ccw: 0,
             left: count - restart % count,
         };
-        let recovery = reported(sense_1, &ccws, at).recovery(&WHOLE_PACK);
+        let recovery = reported(sense_1, &ccws, at).recovery(comparison.any_model());
         comparison.recovery("overflow record, going round", &recovery)?;
     }
     let mut ccws = [ccw(0x86, 0, CD | FLAG_SKIP, COUNT as u16); CCWS];
@@ -271,7 +302,7 @@ fn long_reads(comparison: &mut Comparison, sense_1: u8) -> Result<(), Disagreeme
             ccw: current * CCW_LENGTH,
             left: ((current + 1) * COUNT).saturating_sub(restart),
         };
-        let recovery = reported(sense_1, &ccws, at).recovery(&WHOLE_PACK);
+        let recovery = reported(sense_1, &ccws, at).recovery(comparison.any_model());
         comparison.recovery("overflow record, 256 CCWs", &recovery)?;
     }
     for (address, flags) in [(0, CC), (1, CC), (2, CC), (0, CC | FLAG_SKIP)] {
@@ -284,7 +315,7 @@ fn long_reads(comparison: &mut Comparison, sense_1: u8) -> Result<(), Disagreeme
             };
             let mut reported = reported(sense_1, &ccws, at);
             reported.storage = STORAGE;
-            let recovery = reported.recovery(&WHOLE_PACK);
+            let recovery = reported.recovery(comparison.any_model());
             comparison.recovery("overflow record, all of storage", &recovery)?;
         }
     }

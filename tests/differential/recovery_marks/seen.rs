@@ -1,6 +1,7 @@
 //! Which marks a recovery has.
 
 use super::{AnswerKind, MaskKind, PatternKind, RecoveryEvent, RecoveryMark};
+use crate::models::model_of;
 use crate::reports::GeneratedRecovery;
 use crate::simulator::channel::{CCW_LENGTH, FLAG_CHAIN_COMMAND};
 use crate::simulator::correct::Fate;
@@ -13,7 +14,7 @@ use crate::simulator::recovery::{Answer, NotBuilt, Recovered, RestartAction};
 use crate::simulator::report::Report;
 use crate::simulator::restart::read_count_before;
 use crate::simulator::table::{row_of, Action, TABLE};
-use crate::simulator::{Refusal, LAST_CYLINDER};
+use crate::simulator::Refusal;
 use std::collections::BTreeSet;
 
 /// The marks of a recovery, as it was lent, that the simulator has answered or refused, with so many bytes
@@ -223,7 +224,7 @@ impl Marks {
 
 /// Of a recovery whose extent is well formed; a track off the pack is outside too.
 fn is_outside(recovery: &GeneratedRecovery, track: TrackAddress) -> bool {
-    let extent = Extent::decode(&recovery.extent, LAST_CYLINDER);
+    let extent = Extent::decode(&recovery.extent, model_of(recovery.model));
     extent.is_ok_and(|extent| !extent.contains(track))
 }
 
@@ -233,7 +234,7 @@ fn is_10a_by_another_head(recovery: &GeneratedRecovery) -> bool {
     if let Some([.., h0, h1]) = &mut report.seek_argument {
         [*h0, *h1] = [0; 2];
     }
-    let interrupted = Interrupted::of(&recovery.chain, &report, LAST_CYLINDER);
+    let interrupted = Interrupted::of(&recovery.chain, &report, model_of(recovery.model));
     interrupted.is_ok_and(|found| !found.is_seek() && found.track_reached(&report).is_ok())
 }
 
@@ -272,7 +273,8 @@ mod tests {
     use crate::in_place::changed;
     use crate::simulator::channel::ProgramCheck;
     use crate::simulator::encode::{self, ccw};
-    use crate::simulator::extent::WHOLE_PACK;
+    use crate::simulator::extent::whole_pack;
+    use crate::simulator::model::Model;
     use crate::simulator::report::ReportRule;
     use crate::simulator::sample;
 
@@ -431,7 +433,7 @@ mod tests {
             (EIGHT, 0x10, 31, [0, 8, 0, 5], &[HeadAboveLastIn8]),
         ];
         for (front, address, sense_6, sought, expected) in table {
-            let met = met_by_heads(front, address, sense_6, sought, WHOLE_PACK);
+            let met = met_by_heads(front, address, sense_6, sought, whole_pack(Model::One));
             assert_eq!(met, expected, "{front:?} {address} {sense_6} {sought:?}");
         }
         let to_008_06 = [0, 0, 0, 0, 0, 8, 0, 6];

@@ -1,8 +1,9 @@
-//! Areas that question 1 or 5 answers no to, most of the time.
+//! Areas and models that question 1 or 5 answers no to, most of the time.
 
 use super::row::take_turn;
 use super::{any_planned, GeneratedRecovery};
 use crate::damage;
+use crate::models;
 use crate::random::Random;
 
 /// Lengths of areas to answer in, all wrong.
@@ -20,7 +21,7 @@ pub fn refused(random: &mut Random, turn: usize) -> (&'static str, GeneratedReco
 
 type ToAreas = (&'static str, fn(&mut Random, &mut GeneratedRecovery));
 
-const AREAS: [ToAreas; 10] = [
+const AREAS: [ToAreas; 12] = [
     ("extent damaged", |random, recovery| {
         damage::damage_extent(random, &mut recovery.extent);
     }),
@@ -51,5 +52,13 @@ const AREAS: [ToAreas; 10] = [
     }),
     ("answer's length", |random, recovery| {
         recovery.answer_length = random.pick(&ANSWER_AREAS);
+    }),
+    ("no model", |random, recovery| {
+        recovery.model = models::any_other(random);
+    }),
+    ("no model, extent and report damaged", |random, recovery| {
+        recovery.model = models::any_other(random);
+        recovery.extent.rotate_left(4);
+        recovery.report.pop();
     }),
 ];

@@ -3,6 +3,7 @@
 use super::interrupted::any_sense_6;
 use super::{any_mask, any_seek_argument, any_tries, extent_around, Planned};
 use crate::generate;
+use crate::models::border_track;
 use crate::random::Random;
 use crate::simulator::channel::{
     CCW_LENGTH, CHANNEL_INCORRECT_LENGTH, FLAG_CHAIN_COMMAND, RESTART_PROGRAM,
@@ -19,7 +20,7 @@ pub fn changed(random: &mut Random, turn: usize, mut planned: Planned) -> (&'sta
 
 type Change = (&'static str, fn(&mut Random, &mut Planned));
 
-const CHANGES: [Change; 48] = [
+const CHANGES: [Change; 50] = [
     ("sense 6 changed", |random, planned| {
         planned.report.sense[6] = any_sense_6(random);
     }),
@@ -129,14 +130,18 @@ const CHANGES: [Change; 48] = [
     }),
     ("track off the pack", |random, planned| {
         let at = random.pick(&[8, 10]);
-        planned.report.sense[at] = random.pick(&[1, 2, 0xFF]);
-        planned.report.sense[at + 1] = random.pick(&[0x9B, 0xFF]);
+        planned.report.sense[at] = random.pick(&[3, 4, 0xFF]);
+        planned.report.sense[at + 1] = random.pick(&[0x2F, 0xFF]);
+    }),
+    ("track at the end of a pack", |random, planned| {
+        let track = encode::track_address(border_track(random));
+        planned.report.sense[8..12].copy_from_slice(&track);
     }),
     ("head off the pack", |_, planned| {
         planned.report.sense[11] = 19
     }),
     ("track elsewhere", |random, planned| {
-        let track = encode::track_address(super::any_track(random));
+        let track = encode::track_address(super::any_track(random, planned.model));
         planned.report.sense[8..12].copy_from_slice(&track);
     }),
     ("bytes that are not asked", |random, planned| {
@@ -164,21 +169,26 @@ const CHANGES: [Change; 48] = [
     }),
     ("seek argument off the pack", |random, planned| {
         let argument = planned.report.seek_argument.get_or_insert_default();
-        let off = [[1, 0x9B, 0, 0], [0, 0, 0, 19], [0, 0, 1, 0], [0xFF; 4]];
+        let off = [[0, 0, 0, 19], [0, 0, 1, 0], [0xFF; 4]];
         argument[2..].copy_from_slice(&random.pick(&off));
     }),
+    ("seek argument at the end of a pack", |random, planned| {
+        let argument = planned.report.seek_argument.get_or_insert_default();
+        let track = encode::track_address(border_track(random));
+        argument[2..].copy_from_slice(&track);
+    }),
     ("other seek argument", |random, planned| {
-        planned.report.seek_argument = Some(any_seek_argument(random));
+        planned.report.seek_argument = Some(any_seek_argument(random, planned.model));
     }),
     ("other tries", |random, planned| {
         planned.report.tries = any_tries(random);
     }),
     ("other extent", |random, planned| {
-        planned.extent = generate::extent(random);
+        planned.extent = generate::extent(random, planned.model);
     }),
     ("extent at the track", |random, planned| {
         let track = TrackAddress::decode(&planned.report.sense[8..12]);
-        planned.extent = extent_around(random, track);
+        planned.extent = extent_around(random, planned.model, track);
     }),
     ("chain ends behind the last CCW", |_, planned| {
         let end = planned.report.address();

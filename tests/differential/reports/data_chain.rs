@@ -9,11 +9,12 @@ use crate::simulator::channel::{
 };
 use crate::simulator::drive::{READ_DATA, TAKING_DATA};
 use crate::simulator::encode;
-use crate::simulator::pack::TrackAddress;
+use crate::simulator::model::Model;
 use crate::simulator::recovery::DATA_AREA_FORMAT;
 use crate::simulator::report::Report;
 
 pub fn made_up(random: &mut Random) -> Planned {
+    let model = random.pick(Model::ALL);
     let storage = random.within(4..=24);
     let mut chain = Vec::new();
     for _ in 0..random.pick(&[0, 0, 1, 3]) {
@@ -23,11 +24,14 @@ pub fn made_up(random: &mut Random) -> Planned {
     let counted = put_data_chain(random, &mut chain, storage);
     put_behind(random, &mut chain);
     let restart = random.within(1..=counted + 3);
-    let report = reported(random, &chain, first, restart, storage);
+    let mut report = reported(random, &chain, first, restart, storage);
+    let track = any_track(random, model);
+    report.sense[8..12].copy_from_slice(&encode::track_address(track));
     Planned {
+        model,
         chain,
         storage: random.bytes(storage),
-        extent: extent_around(random, TrackAddress::decode(&report.sense[8..12])),
+        extent: extent_around(random, model, track),
         report,
     }
 }
@@ -87,7 +91,7 @@ fn put_behind(random: &mut Random, chain: &mut Vec<u8>) {
     }
 }
 
-/// The report of a read that began at `first` and brought `restart` bytes.
+/// The report of a read that began at `first` and brought `restart` bytes, of no track yet.
 fn reported(
     random: &mut Random,
     chain: &[u8],
@@ -102,7 +106,6 @@ fn reported(
     sense[0] = 0x08;
     sense[2] = 0x40;
     sense[7] = DATA_AREA_FORMAT;
-    sense[8..12].copy_from_slice(&encode::track_address(any_track(random)));
     sense[12] = random.byte();
     sense[13] = random.below(128) as u8;
     sense[15..18].copy_from_slice(&(restart as u32).to_be_bytes()[1..]);

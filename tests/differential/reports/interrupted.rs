@@ -2,6 +2,7 @@
 
 use super::{any_mask, any_seek_argument, any_tries, extent_around, Planned};
 use crate::chains;
+use crate::models::model_of;
 use crate::random::Random;
 use crate::simulator::channel::CCW_LENGTH;
 use crate::simulator::drive::SEEK;
@@ -31,8 +32,9 @@ pub fn any_sense_6(random: &mut Random) -> u8 {
 
 pub fn planned(random: &mut Random) -> Planned {
     let run = chains::planned(random);
+    let model = model_of(run.model);
     let (at, is_seek) = interrupted(random, &run.chain);
-    let argument = any_seek_argument(random);
+    let argument = any_seek_argument(random, model);
     let track = TrackAddress::decode(&argument[2..]);
     // No row asks for the bits and bytes that are any here.
     let mut sense = [0; 24];
@@ -54,6 +56,7 @@ pub fn planned(random: &mut Random) -> Planned {
     let [_, a0, a1, a2] = ((at + CCW_LENGTH) as u32).to_be_bytes();
     let [unit, channel, c0, c1] = [0; 4].map(|_| random.byte());
     Planned {
+        model,
         chain: run.chain,
         storage: run.storage,
         report: Report {
@@ -64,7 +67,7 @@ pub fn planned(random: &mut Random) -> Planned {
             seek_argument: Some(argument),
             tries: any_tries(random),
         },
-        extent: extent_around(random, target),
+        extent: extent_around(random, model, target),
     }
 }
 

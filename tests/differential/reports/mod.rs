@@ -15,16 +15,19 @@ pub use areas::ANSWER_AREAS;
 use crate::chains;
 use crate::damage::damaged_report;
 use crate::generate::{self, DraftField};
+use crate::models::borders_on;
 use crate::random::Random;
+use crate::simulator::encode;
 use crate::simulator::held::RECOVERY_ANSWER;
 use crate::simulator::large::place_of;
+use crate::simulator::model::Model;
 use crate::simulator::pack::{TrackAddress, LAST_HEAD};
 use crate::simulator::report::{self, Report};
-use crate::simulator::{encode, LAST_CYLINDER};
 
 /// A recovery whose report is not written yet.
 #[derive(Clone)]
 pub struct Planned {
+    model: Model,
     chain: Vec<u8>,
     storage: Vec<u8>,
     report: Report,
@@ -39,6 +42,7 @@ impl Planned {
 
     fn with_report(self, random: &mut Random, report: Vec<u8>) -> GeneratedRecovery {
         GeneratedRecovery {
+            model: self.model.number(),
             chain: self.chain,
             report,
             extent: self.extent,
@@ -145,38 +149,31 @@ fn any_tries(random: &mut Random) -> u8 {
     random.pick(&[0, 0, 0, 1, 2, 9, 10, 11, 255])
 }
 
-fn any_seek_argument(random: &mut Random) -> [u8; 6] {
-    let [c0, c1, h0, h1] = encode::track_address(any_track(random));
+fn any_seek_argument(random: &mut Random, model: Model) -> [u8; 6] {
+    let [c0, c1, h0, h1] = encode::track_address(any_track(random, model));
     [0, 0, c0, c1, h0, h1]
 }
 
-/// A track of the pack, at an edge as often as not.
-fn any_track(random: &mut Random) -> TrackAddress {
-    let (last_cylinder, last_head) = (LAST_CYLINDER.into(), LAST_HEAD.into());
-    let anywhere = random.within(0..=last_cylinder);
-    let cylinder = random.pick(&[
-        0,
-        8,
-        255,
-        last_cylinder - 1,
-        last_cylinder,
-        anywhere,
-        anywhere,
-    ]);
+/// A track of the pack, at an edge as often as not; the edge of another model's pack is one.
+fn any_track(random: &mut Random, model: Model) -> TrackAddress {
+    let (last_cylinder, last_head) = (model.last_cylinder(), LAST_HEAD.into());
+    let anywhere = random.within(0..=last_cylinder.into()) as u16;
+    let border = random.pick(borders_on(model));
+    let cylinder = random.pick(&[0, 8, 255, border - 1, border, anywhere, anywhere]);
     let anywhere = random.within(0..=last_head);
     let head = random.pick(&[0, 1, last_head - 1, last_head, anywhere]);
     TrackAddress {
-        cylinder: cylinder as u16,
+        cylinder,
         head: head as u16,
     }
 }
 
 /// An extent in which a track of the pack mostly lies, often at its edge.
-fn extent_around(random: &mut Random, track: TrackAddress) -> Vec<u8> {
-    let last = generate::TRACKS - 1;
+fn extent_around(random: &mut Random, model: Model, track: TrackAddress) -> Vec<u8> {
+    let last = generate::tracks_of(model) - 1;
     let place = place_of(track).min(last);
     let places = match random.below(12) {
-        0 => return generate::extent(random),
+        0 => return generate::extent(random, model),
         1 => [0, place.saturating_sub(1)],
         2 => [(place + 1).min(last), last],
         3 | 4 => [place, place],
@@ -192,7 +189,8 @@ mod tests {
     use super::*;
     use crate::chains::{GeneratedRestart, GeneratedRun};
     use crate::demand::{csw_of_reading, AtReadCount, LastTwo};
-    use crate::simulator::extent::WHOLE_PACK;
+    use crate::models::model_of;
+    use crate::simulator::extent::whole_pack;
     use crate::simulator::recovery::Answer;
     use crate::simulator::run::{End, Outcome};
     use crate::simulator::{check_faults, Refusal};
@@ -242,11 +240,13 @@ mod tests {
             };
             let (mut run, outcome) = generated(&mut random);
             let report = Report::of_cut(&outcome).expect("a cut");
+            let model = model_of(run.model);
             let planned = Planned {
+                model,
                 chain: run.chain.clone(),
                 storage: run.storage.clone(),
                 report,
-                extent: WHOLE_PACK.to_vec(),
+                extent: whole_pack(model).to_vec(),
             };
             let mut recovery = planned.written(&mut random);
             let Ok(recovered) = recovery.simulated() else {
@@ -269,11 +269,13 @@ mod tests {
     /// fetch mode.
     fn read_on(run: &mut GeneratedRun, mut outcome: Outcome) -> Option<[u8; 8]> {
         while let Some(report) = Report::of_cut(&outcome) {
+            let model = model_of(run.model);
             let planned = Planned {
+                model,
                 chain: run.chain.clone(),
                 storage: run.storage.clone(),
                 report,
-                extent: WHOLE_PACK.to_vec(),
+                extent: whole_pack(model).to_vec(),
             };
             let mut recovery = planned.written(&mut Random::new(0));
             let recovered = recovery.simulated().expect("the cut agrees with the chain");
@@ -317,7 +319,7 @@ mod tests {
             let Some(csw) = read_on(&mut run, outcome) else {
                 continue;
             };
-            let (_, faults) = check_faults(&run.image, &run.faults, LAST_CYLINDER).unwrap();
+            let (_, faults) = check_faults(run.model, &run.image, &run.faults).unwrap();
             let at_read_count = AtReadCount::of(&expected, &last, &faults);
             assert_eq!(csw, csw_of_reading(expected.csw, at_read_count));
             assert!(run.storage == faultless.storage);

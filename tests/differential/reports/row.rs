@@ -54,11 +54,11 @@ pub fn any_contents(random: &mut Random) -> Planned {
     report.mask = any_mask(random);
     report.seek_argument = match random.below(3) {
         0 => None,
-        1 => Some(any_seek_argument(random)),
+        1 => Some(any_seek_argument(random, planned.model)),
         _ => random.bytes(6).try_into().ok(),
     };
     report.tries = random.byte();
     let track = TrackAddress::decode(&planned.report.sense[8..12]);
-    planned.extent = extent_around(random, track);
+    planned.extent = extent_around(random, planned.model, track);
     planned
 }

@@ -8,6 +8,7 @@ use crate::limits::{faults_of_last_records, MOST_FAULTS};
 use crate::simulator::channel::CCW_LENGTH;
 use crate::simulator::encode;
 use crate::simulator::large::{cylinder_of, image_of, track_at, TracksOf};
+use crate::simulator::model::Model;
 use crate::simulator::pack::LAST_HEAD;
 use crate::simulator::sample;
 
@@ -17,6 +18,13 @@ const LONGEST_ARGUMENTS: usize = 4_096;
 const LONGEST_CHAIN: usize = 2_048;
 
 pub fn compare_all(comparison: &mut Comparison) -> Result<(), Disagreement> {
+    Model::ALL
+        .iter()
+        .try_for_each(|model| compare_on(comparison, model.number()))
+}
+
+fn compare_on(comparison: &mut Comparison, model: u8) -> Result<(), Disagreement> {
+    let mut compare = |kind, run| comparison.run(kind, GeneratedRun { model, ..run });
     for restarted in [false, true] {
         for (kind, run) in [
             ("search to the limit", searched_to_the_limit()),
@@ -27,24 +35,24 @@ pub fn compare_all(comparison: &mut Comparison) -> Result<(), Disagreement> {
             ("18 steps in a read", steps_in_a_read(1)),
             ("18 steps in a read, then none", steps_in_a_read(0)),
         ] {
-            comparison.run(kind, started(run, restarted))?;
+            compare(kind, started(run, restarted))?;
         }
         // A restart adds a command of its own.
         let (step, idle) = if restarted { (32, 31) } else { (16, 16) };
         let last = ends_after(step, idle);
-        comparison.run("last command ends it", started(last, restarted))?;
+        compare("last command ends it", started(last, restarted))?;
         let past = ends_after(step, idle + 1);
-        comparison.run("one command past the limit", started(past, restarted))?;
+        compare("one command past the limit", started(past, restarted))?;
         for (name, lengthen) in LONGER {
             let mut run = started(many_ccws(), restarted);
             lengthen(&mut run);
-            comparison.run(name, run)?;
+            compare(name, run)?;
         }
     }
     for (name, lengthen) in RESTART_LONGER {
         let mut run = started(many_ccws(), true);
         lengthen(run.restart.as_mut().expect("a restarted run"));
-        comparison.run(name, run)?;
+        compare(name, run)?;
     }
     Ok(())
 }
@@ -53,7 +61,7 @@ pub fn compare_all(comparison: &mut Comparison) -> Result<(), Disagreement> {
 /// all its records, and the ID of the last of them ends the arguments.
 fn over(tracks: TracksOf, ccws: &[[u8; CCW_LENGTH]]) -> GeneratedRun {
     let image = image_of(LONGEST_IMAGE, tracks);
-    let pack = decoded(&image);
+    let pack = decoded(Model::One, &image);
     let places: Vec<_> = pack.tracks().map(|(track, _)| track).collect();
     let track = encode::track_address(places[places.len() - 2]);
     let mut arguments = vec![0; LONGEST_ARGUMENTS];
@@ -67,9 +75,7 @@ fn over(tracks: TracksOf, ccws: &[[u8; CCW_LENGTH]]) -> GeneratedRun {
         arguments,
         storage: vec![0xEE; LONGEST_STORAGE],
         image,
-        faults: Vec::new(),
-        limit: 4_096,
-        restart: None,
+        ..GeneratedRun::default()
     }
 }
 
@@ -112,7 +118,7 @@ fn many_ccws() -> GeneratedRun {
 /// Reads from a track on which the list, as long as it may be, begins to name records.
 fn most_faults() -> GeneratedRun {
     let image = image_of(65_000, TracksOf::MANY_RECORDS);
-    let faults = faults_of_last_records(&decoded(&image), MOST_FAULTS);
+    let faults = faults_of_last_records(&decoded(Model::One, &image), MOST_FAULTS);
     let ccws = [
         encode::ccw(0x07, 0, 0x40, 6),
         encode::ccw(0x1E, 0, 0x40, 9),
@@ -124,8 +130,7 @@ fn most_faults() -> GeneratedRun {
         storage: vec![0xEE; 9],
         image,
         faults,
-        limit: 4_096,
-        restart: None,
+        ..GeneratedRun::default()
     }
 }
 
@@ -148,9 +153,7 @@ fn ends_after(step: usize, idle: usize) -> GeneratedRun {
         arguments: Vec::new(),
         storage: vec![0xEE; 9],
         image,
-        faults: Vec::new(),
-        limit: 4_096,
-        restart: None,
+        ..GeneratedRun::default()
     }
 }
 

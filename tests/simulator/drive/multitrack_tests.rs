@@ -1,8 +1,8 @@
 //! Steps to the next head.
 
 use super::*;
+use crate::simulator::check_faults;
 use crate::simulator::large::{put_track, track_at, TracksOf};
-use crate::simulator::{check_faults, LAST_CYLINDER};
 
 /// Calls `test` with a drive over tracks of cylinder 0 and 1 at these places of the pack, each with
 /// so many records of one byte after R0, on the track at `at`.
@@ -15,8 +15,8 @@ fn with_drive(tracks: &[(usize, u8)], at: usize, test: impl FnOnce(Drive)) {
         };
         put_track(&mut image, track_at(place), records);
     }
-    let (pack, faults) = check_faults(&image, &[], LAST_CYLINDER).unwrap();
-    let mut drive = Drive::new(&pack, &faults, LAST_CYLINDER);
+    let (pack, faults) = check_faults(1, &image, &[]).unwrap();
+    let mut drive = Drive::new(&pack, &faults, Model::One);
     drive.to_track(track_at(at));
     test(drive);
 }

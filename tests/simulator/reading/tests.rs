@@ -385,7 +385,10 @@ fn ends_in_the_chain_elsewhere() {
 
 #[test]
 fn refused_and_nothing_changed() {
-    let changes: [(fn(&mut Call), u8); 12] = [
+    let changes: [(fn(&mut Call), u8); 15] = [
+        (|call| call.model = 0, 1),
+        (|call| call.model = 2, 1),
+        (|call| call.model = 12, 1),
         (|call| call.chain.push(0), 1),
         (|call| call.arguments.resize(4_097, 0), 1),
         (|call| call.storage.resize(65_537, 0), 1),
@@ -419,6 +422,29 @@ fn lowest_number_answers() {
     assert_eq!(answer(&call.simulated()), 2);
     call.program.push(0);
     assert_eq!(answer(&call.simulated()), 1);
+}
+
+#[test]
+fn sample_on_another_track() {
+    assert_eq!(sample::on_track(TRACK), sample::reading());
+}
+
+#[test]
+fn sample_on_each_model() {
+    for (cylinder, one, eleven) in [(410, 0, 0), (411, 2, 0), (814, 2, 0), (815, 2, 2)] {
+        let [c0, c1] = u16::to_be_bytes(cylinder);
+        let lent = sample::on_track(TrackAddress { cylinder, head: 18 });
+        for (model, number) in [(1, one), (11, eleven)] {
+            let mut call = lent.clone().with(|call| call.model = model);
+            let reading = call.simulated();
+            assert_eq!(answer(&reading), number);
+            let Ok(reading) = reading else { continue };
+            assert_eq!(reading.end, End::Run(run::End::Chain));
+            assert_eq!(made(&reading), [(FiveA, 1)]);
+            assert_eq!(call.storage[..8], MENDED);
+            assert_eq!(call.restart_arguments[2..6], [c0, c1, 0, 18]);
+        }
+    }
 }
 
 /// The report has no seek argument, so nothing but action 5 could do with it.

@@ -4,14 +4,15 @@ use super::*;
 use crate::simulator::channel::ProgramCheck;
 use crate::simulator::cut::CutRule;
 use crate::simulator::encode::{self, ccw};
-use crate::simulator::extent::WHOLE_PACK;
+use crate::simulator::extent::whole_pack;
 use crate::simulator::interrupted::InterruptedRule;
 use crate::simulator::report::ReportRule;
-use crate::simulator::{sample, LAST_CYLINDER};
+use crate::simulator::sample;
 
 /// A call: what is lent, a report to be written, and what was left.
 #[derive(Clone)]
 struct Call {
+    model: u8,
     chain: Vec<u8>,
     report: Report,
     extent: [u8; 8],
@@ -25,13 +26,14 @@ impl Call {
         let mut sense = [0; 24];
         sense[..3].copy_from_slice(&front);
         Call {
+            model: 1,
             chain: ccws.concat(),
             report: Report {
                 sense,
                 csw: [0, 0, 0, 8, 0x0E, 0, 0, 0],
                 ..Report::default()
             },
-            extent: WHOLE_PACK,
+            extent: whole_pack(Model::One),
             storage: vec![0; 600],
             program: [0xA5; 64],
             arguments: [0xA5; 16],
@@ -88,6 +90,16 @@ impl Call {
         self
     }
 
+    /// On a pack of this model, which is its extent; the track that the user sought.
+    fn on(self, model: Model, cylinder: u16, head: u8) -> Call {
+        let [c0, c1] = cylinder.to_be_bytes();
+        self.with(|call| {
+            call.model = model.number();
+            call.extent = whole_pack(model);
+            call.report.seek_argument = Some([0, 0, c0, c1, 0, head]);
+        })
+    }
+
     fn recovered(&mut self) -> Result<Recovered, Refusal> {
         let report = encode::report(&self.report);
         self.recovered_from(&report)
@@ -95,6 +107,7 @@ impl Call {
 
     fn recovered_from(&mut self, report: &[u8]) -> Result<Recovered, Refusal> {
         let lent = Lent {
+            model: self.model,
             chain: &self.chain,
             report,
             extent: &self.extent,
@@ -104,7 +117,7 @@ impl Call {
             program: &mut self.program,
             restart_arguments: &mut self.arguments,
         };
-        recover(lent, areas, LAST_CYLINDER)
+        recover(lent, areas)
     }
 
     /// An answer that writes nothing, or the refusal.
@@ -555,16 +568,60 @@ fn head_sought_is_asked_in_10a_too() {
 
 #[test]
 fn behind_the_last_cylinder() {
-    let last = |call: &mut Call| call.report.seek_argument = Some([0, 0, 1, 0x9A, 0, 18]);
     let off = |action| Ok(Answer::NotBuilt(action, NotBuilt::OffThePack));
-    let eight = Call::end_of_cylinder().with(last);
-    assert_eq!(eight.untouched(), off(RestartAction::Eight));
-    let ten_a = Call::protected_step().with(last);
-    assert_eq!(ten_a.clone().restart().2[..6], [0, 0, 1, 0x9A, 0, 18]);
-    let ten_a = ten_a.with(|call| call.report.sense[6] = 18);
-    assert_eq!(ten_a.untouched(), off(RestartAction::TenA));
-    let ten = Call::protected_seek().with(last);
-    assert_eq!(ten.restart().2[..6], [0, 0, 1, 0x9A, 0, 18]);
+    for (model, cylinder) in [(Model::One, 410), (Model::Eleven, 814)] {
+        let [c0, c1] = u16::to_be_bytes(cylinder);
+        let eight = Call::end_of_cylinder().on(model, cylinder, 18);
+        assert_eq!(eight.untouched(), off(RestartAction::Eight));
+        let ten_a = Call::protected_step().on(model, cylinder, 18);
+        assert_eq!(ten_a.clone().restart().2[..6], [0, 0, c0, c1, 0, 18]);
+        let ten_a = ten_a.with(|call| call.report.sense[6] = 18);
+        assert_eq!(ten_a.untouched(), off(RestartAction::TenA));
+        let ten = Call::protected_seek().on(model, cylinder, 18);
+        assert_eq!(ten.restart().2[..6], [0, 0, c0, c1, 0, 18]);
+    }
+}
+
+#[test]
+fn behind_cylinder_410_on_model_11() {
+    let eight = Call::end_of_cylinder().on(Model::Eleven, 410, 18);
+    assert_eq!(eight.restart().2[..6], [0, 0, 0x01, 0x9B, 0, 0]);
+    let carried = |call: &mut Call| call.report.sense[6] = 18;
+    let ten_a = Call::protected_step().on(Model::Eleven, 410, 0);
+    let ten_a = ten_a.with(carried);
+    assert_eq!(ten_a.restart().2[..6], [0, 0, 0x01, 0x9B, 0, 0]);
+}
+
+#[test]
+fn record_off_the_pack_of_the_model() {
+    for (cylinder, one, eleven) in [(411, false, true), (814, false, true), (815, false, false)] {
+        let track = u16::to_be_bytes(cylinder);
+        for (model, built) in [(Model::One, one), (Model::Eleven, eleven)] {
+            let call = Call::sample().with(|call| {
+                call.model = model.number();
+                call.extent = whole_pack(model);
+                call.report.sense[8..10].copy_from_slice(&track);
+            });
+            if built {
+                assert_eq!(call.restart().2[2..4], track);
+            } else {
+                let off = Answer::NotBuilt(RestartAction::FiveA, NotBuilt::OffThePack);
+                assert_eq!(call.untouched(), Ok(off));
+            }
+        }
+    }
+}
+
+#[test]
+fn another_model_is_question_1() {
+    for model in [0, 2, 10, 12, 255] {
+        let call = Call::sample().with(|call| call.model = model);
+        assert_eq!(call.clone().untouched(), Err(Refusal::Model));
+        let torn = call.clone().recovered_from(&[0x10]);
+        assert_eq!(torn, Err(Refusal::Model));
+        let short = call.with(|call| call.chain.truncate(7));
+        assert_eq!(short.untouched(), Err(Refusal::Model));
+    }
 }
 
 #[test]

@@ -30,7 +30,7 @@ returns-2 c =
     (eight-no-ccw _ (a .t) _ (c .before .before .before .before .user .given .1) (rw (c .enum-told3 .given .1) at (c .before .before .interrupted .ensures .0)), tt)
 
 next-cylinder-requires : tie.Need-next-cylinder-requires
-next-cylinder-requires c κs = let track = c .before .before .before .before in rw (track .user .given .1) at (track .before .before .before .before .pre .1 .user-on)
+next-cylinder-requires c κs = let track = c .before .before .before .before in (rw (track .user .given .1) at (track .before .before .before .before .pre .1 .user-low)) .0
 
 sub-home : tie.Need-sub-home
 sub-home c =

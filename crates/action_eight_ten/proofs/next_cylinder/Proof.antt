@@ -1,12 +1,11 @@
--- `action_eight_ten::next_cylinder` meets its contract: a cylinder of the pack is low. Assumes nothing.
-use native.Mathlib.Omega.{arith}
+-- `action_eight_ten::next_cylinder` meets its contract: the cylinder is low. Assumes nothing.
 use mathlib.Core.Path.{refl}
-use Rattle.decision.proofs.Bounded.{pack-low}
+use borrow.Author.Needs.{needs}
 use Rattle.action_eight_ten.proofs.next_cylinder.Statement.{statement}
 use Rattle.action_eight_ten.proofs.next_cylinder.Tie as tie
 
 add-t2 : tie.Need-add-t2
-add-t2 c = let low = pack-low _ (c .before .pre) in omega (arith, low .0)
+add-t2 c = search needs
 
 returns : tie.Need-returns
 returns c = refl

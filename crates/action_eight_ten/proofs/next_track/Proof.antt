@@ -1,8 +1,6 @@
 -- `action_eight_ten::next_track` meets its contract: by the head. Assumes nothing.
-use native.Mathlib.Omega.{arith}
 use mathlib.Core.Path.{_∙_}
 use Rattle.action_eight_ten.proofs.Tracks.{head-carried, head-up}
-use Rattle.decision.proofs.Bounded.{pack-low}
 use borrow.Author.Needs.{needs}
 use Rattle.action_eight_ten.proofs.next_track.Statement.{statement}
 use Rattle.action_eight_ten.proofs.next_track.Tie as tie
@@ -14,7 +12,7 @@ returns : tie.Need-returns
 returns c = c .next-cylinder .ensures ∙ head-carried _ (c .before .if1 .taken)
 
 add-t3 : tie.Need-add-t3
-add-t3 c = let low = pack-low _ (c .before .before .before .pre) in omega (arith, low .1)
+add-t3 c = search needs
 
 returns-2 : tie.Need-returns-2
 returns-2 c = head-up _ (c .before .if1 .left)

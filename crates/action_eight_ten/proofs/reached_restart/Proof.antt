@@ -1,5 +1,4 @@
 -- `action_eight_ten::reached_restart` meets its contract: by the head reached. Assumes nothing.
-use Rattle.action_eight_ten.proofs.Tracks.{reached-on}
 use Rattle.action_eight_ten.proofs.Restarts.{head-off, head-on}
 use borrow.Author.Needs.{needs}
 use Rattle.action_eight_ten.proofs.reached_restart.Statement.{statement}
@@ -9,7 +8,7 @@ returns : tie.Need-returns
 returns c = (head-off _ _ _ _ (c .if1 .taken), tt)
 
 next-track-requires : tie.Need-next-track-requires
-next-track-requires c κs = reached-on _ _ (c .before .pre .1 .1) (c .if1 .left)
+next-track-requires c κs = search needs
 
 sub-home : tie.Need-sub-home
 sub-home c = search needs

@@ -60,7 +60,7 @@ reached-restart-requires c κs =
     let track = held .before .before .before .before in
     let pre = track .before .before .before .before .before .pre in
     let there = rw (held .c .given .1) at (held .before .before .interrupted .ensures .1) in
-    (there .0, (omega (arith, there .1, pre .0), rw (track .user .given .1) at (pre .1 .user-on)))
+    (there .0, (omega (arith, there .1, pre .0), (rw (track .user .given .1) at (pre .1 .user-low)) .0))
 
 returns-4 : tie.Need-returns-4
 returns-4 c =

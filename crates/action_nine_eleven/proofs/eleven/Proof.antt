@@ -1,5 +1,5 @@
 -- `action_nine_eleven::eleven` meets its contract: by the user's track and the head reached. Assumes nothing.
-use Rattle.action_eight_ten.proofs.Tracks.{reached-on}
+use native.Mathlib.Omega.{arith}
 use Rattle.action_nine_eleven.proofs.Overflows.{eleven-no-track, head-off, eleven-goes}
 use borrow.Author.Needs.{needs}
 use Rattle.action_nine_eleven.proofs.eleven.Statement.{statement}
@@ -25,8 +25,8 @@ returns-2 c =
 next-track-requires : tie.Need-next-track-requires
 next-track-requires c κs =
     let at-user = c .before .before .before in
-    let on = rw (at-user .user .given .1) at (at-user .before .before .before .before .pre .1 .1 .user-on) in
-    reached-on _ _ on (c .if1 .left)
+    let low = rw (at-user .user .given .1) at (at-user .before .before .before .before .pre .1 .1 .user-low) in
+    (low .0, omega (arith, c .if1 .left))
 
 overflow-at-requires : tie.Need-overflow-at-requires
 overflow-at-requires c κs = let pre = c .before .before .before .before .before .before .before .before .pre in (pre .0, pre .1 .0)

@@ -16,7 +16,7 @@ returns c =
     (nine-no-track (a .chain .now) (a .size) (a .t) (c .enum-told .given .1), tt)
 
 next-cylinder-requires : tie.Need-next-cylinder-requires
-next-cylinder-requires c κs = rw (c .before .user .given .1) at (c .before .before .before .before .pre .1 .1 .user-on)
+next-cylinder-requires c κs = (rw (c .before .user .given .1) at (c .before .before .before .before .pre .1 .1 .user-low)) .0
 
 overflow-at-requires : tie.Need-overflow-at-requires
 overflow-at-requires c κs = let pre = c .before .before .before .before .before .pre in (pre .0, pre .1 .0)

@@ -6,7 +6,7 @@ use Rattle.address.proofs.check_extent.Statement.{statement}
 use Rattle.address.proofs.check_extent.Tie as tie
 
 returns : tie.Need-returns
-returns c = extent-size _ (c .if1 .taken)
+returns c = extent-size _ _ (c .if1 .taken)
 
 extent-of-requires : tie.Need-extent-of-requires
 extent-of-requires c κs = search needs
@@ -17,12 +17,12 @@ on-pack-requires c κs = search needs
 returns-2 : tie.Need-returns-2
 returns-2 c =
     let on-pack = c .before in
-    extent-sound _ (on-pack .before .before .if1 .left) _ (on-pack .before .extent-of .ensures) (sym (on-pack .on-pack .ensures) ∙ c .if2 .taken)
+    extent-sound _ _ (on-pack .before .before .if1 .left) _ (on-pack .before .extent-of .ensures) (sym (on-pack .on-pack .ensures) ∙ c .if2 .taken)
 
 returns-3 : tie.Need-returns-3
 returns-3 c =
     let on-pack = c .before in
-    extent-off _ (on-pack .before .before .if1 .left) _ (on-pack .before .extent-of .ensures) (sym (on-pack .on-pack .ensures) ∙ c .if2 .left)
+    extent-off _ _ (on-pack .before .before .if1 .left) _ (on-pack .before .extent-of .ensures) (sym (on-pack .on-pack .ensures) ∙ c .if2 .left)
 
 pub check-extent-spec : {M : Type 1} → statement M
 check-extent-spec =

@@ -16,7 +16,7 @@ refuse-requires c κs = search needs
 returns : tie.Need-returns
 returns c =
     let wrong = sym (c .before .before .counted .ensures) ∙ not-true _ (c .before .if1 .taken) in
-    (seek-uncounted _ _ _ (c .refuse .result) _ _ _ wrong (c .refuse .ensures .0), c .refuse .ensures .1 _)
+    (seek-uncounted _ _ _ (c .refuse .result) _ _ _ _ wrong (c .refuse .ensures .0), c .refuse .ensures .1 _)
 
 argument-word-requires : tie.Need-argument-word-requires
 argument-word-requires c κs =
@@ -36,7 +36,9 @@ argument-word-requires-3 c κs =
     (pre .1 .1 .1, (count-above _ _ 5 (sym (test .before .counted .ensures) ∙ not-false _ (test .if1 .left)) (omega arith), pre .1 .1 .0))
 
 seek-to-requires : tie.Need-seek-to-requires
-seek-to-requires c κs = search needs
+seek-to-requires c κs =
+    let pre = c .before .before .before .before .before .before .before .before .pre in
+    (pre .0, (pre .1 .0, (pre .1 .1 .0, (c .before .argument-word2 .ensures .0, c .argument-word3 .ensures .0))))
 
 returns-2 : tie.Need-returns-2
 returns-2 c =
@@ -46,7 +48,7 @@ returns-2 c =
     let zero = at-argument-word .argument-word .ensures .1 in
     let cylinder = c .before .before .argument-word2 .ensures .1 in
     let head = c .before .argument-word3 .ensures .1 in
-    (seek-performs _ _ _ (c .seek-to .result) _ _ _ _ _ _ right zero cylinder head (c .seek-to .ensures .0), c .seek-to .ensures .1)
+    (seek-performs _ _ _ (c .seek-to .result) _ _ _ _ _ _ _ right zero cylinder head (c .seek-to .ensures .0), c .seek-to .ensures .1)
 
 pub seek-spec : {M : Type 1} → statement M
 seek-spec =

@@ -12,7 +12,7 @@ refuse-requires : tie.Need-refuse-requires
 refuse-requires c κs = search needs
 
 returns : tie.Need-returns
-returns c = (seek-first _ _ _ (c .refuse .result) _ _ (c .before .if1 .taken) (c .refuse .ensures .0), c .refuse .ensures .1 _)
+returns c = (seek-first _ _ _ (c .refuse .result) _ _ _ (c .before .if1 .taken) (c .refuse .ensures .0), c .refuse .ensures .1 _)
 
 on-pack-requires : tie.Need-on-pack-requires
 on-pack-requires c κs = search needs
@@ -21,7 +21,7 @@ refuse-requires-2 : tie.Need-refuse-requires-2
 refuse-requires-2 c κs = search needs
 
 returns-2 : tie.Need-returns-2
-returns-2 c = (seek-off _ _ _ (c .refuse2 .result) _ _ (sym (c .before .before .before .on-pack .ensures) ∙ not-true _ (c .before .if2 .taken)) (c .refuse2 .ensures .0), c .refuse2 .ensures .1 _)
+returns-2 c = (seek-off _ _ _ (c .refuse2 .result) _ _ _ (sym (c .before .before .before .on-pack .ensures) ∙ not-true _ (c .before .if2 .taken)) (c .refuse2 .ensures .0), c .refuse2 .ensures .1 _)
 
 protects-requires : tie.Need-protects-requires
 protects-requires c κs = search needs
@@ -34,7 +34,7 @@ returns-3 c =
     let test = c .before .before in
     let on = sym (test .before .before .on-pack .ensures) ∙ not-false _ (test .if2 .left) in
     let masked = sym (test .before .protects .ensures) ∙ c .before .if3 .taken in
-    (seek-protected _ _ _ (c .refuse3 .result) _ _ (test .before .before .before .if1 .left) on masked (c .refuse3 .ensures .0), c .refuse3 .ensures .1 _)
+    (seek-protected _ _ _ (c .refuse3 .result) _ _ _ (test .before .before .before .if1 .left) on masked (c .refuse3 .ensures .0), c .refuse3 .ensures .1 _)
 
 next-requires : tie.Need-next-requires
 next-requires c κs = low-next _ (omega arith)
@@ -53,7 +53,7 @@ returns-4 c =
     let free = sym (test .before .protects .ensures) ∙ mask .if3 .left in
     let to = c .before .sought in
     let done = c .onward in
-    (seek-done _ _ _ (done .result) _ _ (test .before .before .before .if1 .left) on free (c .before .before .next .ensures) (to .ensures .0) (done .ensures .0), done .ensures .1 _ (to .ensures .1))
+    (seek-done _ _ _ (done .result) _ _ _ (test .before .before .before .if1 .left) on free (c .before .before .next .ensures) (to .ensures .0) (done .ensures .0), done .ensures .1 _ (to .ensures .1))
 
 pub seek-to-spec : {M : Type 1} → statement M
 seek-to-spec =

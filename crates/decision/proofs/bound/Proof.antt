@@ -14,8 +14,9 @@ seek-allowed-requires c κs = search needs
 returns : tie.Need-returns
 returns c =
     let at-d = c .before .before .before .before in
+    let start = at-d .before .before in
     let yes = sym (c .before .seek-allowed .ensures) ∙ c .if1 .taken in
-    (restart-in _ _ _ _ (at-d .d .given .1) yes, plan-low _ _ yes (rw (at-d .d .given .1) at (at-d .before .before .pre)))
+    (restart-in _ _ _ _ (at-d .d .given .1) yes, plan-low (start .args .x) _ yes (rw (at-d .d .given .1) at (start .pre)))
 
 returns-2 : tie.Need-returns-2
 returns-2 c = (restart-out _ _ _ _ (c .before .before .before .before .d .given .1) (sym (c .before .seek-allowed .ensures) ∙ c .if1 .left), tt)
@@ -29,8 +30,9 @@ seek-allowed-requires-2 c κs = search needs
 returns-3 : tie.Need-returns-3
 returns-3 c =
     let at-d = c .before .before .before .before in
+    let start = at-d .before .before in
     let yes = sym (c .before .seek-allowed2 .ensures) ∙ c .if2 .taken in
-    (resumed-in _ _ _ (at-d .d2 .given .1) yes, overflow-low _ _ yes (rw (at-d .d2 .given .1) at (at-d .before .before .pre)))
+    (resumed-in _ _ _ (at-d .d2 .given .1) yes, overflow-low (start .args .x) _ yes (rw (at-d .d2 .given .1) at (start .pre)))
 
 returns-4 : tie.Need-returns-4
 returns-4 c = (resumed-out _ _ _ (c .before .before .before .before .d2 .given .1) (sym (c .before .seek-allowed2 .ensures) ∙ c .if2 .left), tt)

@@ -22,7 +22,7 @@ returns c =
     let start = entry .args in
     let test = c .before .before .sound in
     let k = at-command-of .command-of in
-    (checked (start .chain .now) (start .arguments .now) (start .program .now) (start .restart-arguments .now) _ (start .c) (start .storage .now) (k .result) (test .result) (k .ensures) (test .ensures) (start .image .now) (start .faults .now) _ (c .program-check .result) (not-true _ (c .before .if1 .taken)) (c .program-check .ensures .0), c .program-check .ensures .1 _)
+    (checked (start .chain .now) (start .arguments .now) (start .program .now) (start .restart-arguments .now) _ (start .c) (start .storage .now) (k .result) (test .result) (k .ensures) (test .ensures) _ (start .image .now) (start .faults .now) _ (c .program-check .result) (not-true _ (c .before .if1 .taken)) (c .program-check .ensures .0), c .program-check .ensures .1 _)
 
 perform-requires : tie.Need-perform-requires
 perform-requires c κs =
@@ -47,7 +47,7 @@ returns-2 c =
     let test = at-sound .sound in
     let k = at-command-of .command-of in
     let done = c .before .before .perform in
-    (performed (start .chain .now) (start .arguments .now) (start .program .now) (start .restart-arguments .now) _ (start .c) (start .storage .now) (k .result) (test .result) (k .ensures) (test .ensures) (start .image .now) (start .faults .now) _ (done .result) _ (not-false _ (at-if1 .if1 .left)) (done .ensures .0), done .ensures .1)
+    (performed (start .chain .now) (start .arguments .now) (start .program .now) (start .restart-arguments .now) _ (start .c) (start .storage .now) (k .result) (test .result) (k .ensures) (test .ensures) _ (start .image .now) (start .faults .now) _ (done .result) _ (not-false _ (at-if1 .if1 .left)) (done .ensures .0), done .ensures .1)
 
 pub execute-spec : {M : Type 1} → statement M
 execute-spec =

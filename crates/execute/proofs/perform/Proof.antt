@@ -67,7 +67,7 @@ returns c =
     let reach = c .before .before .before in
     let a = reach .before .before .before .before .before .before .before .before .before .args in
     let refuse = c .refuse in
-    (failed-performs _ (a .arguments .now) _ (a .restart-arguments .now) (a .image .now) _ _ (a .c) (a .k) _ (refuse .result) (a .d) (reach .reach .result) notFound (ap reachedOf (c .before .enum-told .given .1)) (reach .reach .ensures .0) (refuse .ensures .0), refuse .ensures .1 _)
+    (failed-performs _ (a .arguments .now) _ (a .restart-arguments .now) _ (a .image .now) _ _ (a .c) (a .k) _ (refuse .result) (a .d) (reach .reach .result) notFound (ap reachedOf (c .before .enum-told .given .1)) (reach .reach .ensures .0) (refuse .ensures .0), refuse .ensures .1 _)
 
 returns-2 : tie.Need-returns-2
 returns-2 c =
@@ -75,14 +75,14 @@ returns-2 c =
     let reach = at-stood .before .before in
     let a = reach .before .before .before .before .before .before .before .before .before .args in
     let refuse = c .refuse-step in
-    (failed-performs _ (a .arguments .now) _ (a .restart-arguments .now) (a .image .now) _ _ (a .c) (a .k) _ (refuse .result) (a .d) (reach .reach .result) (protectedStep (at-stood .stood .given .0 .0 .at .head)) (ap reachedOf (at-stood .stood .given .1)) (reach .reach .ensures .0) (refuse .ensures .0), refuse .ensures .1 _)
+    (failed-performs _ (a .arguments .now) _ (a .restart-arguments .now) _ (a .image .now) _ _ (a .c) (a .k) _ (refuse .result) (a .d) (reach .reach .result) (protectedStep (at-stood .stood .given .0 .0 .at .head)) (ap reachedOf (at-stood .stood .given .1)) (reach .reach .ensures .0) (refuse .ensures .0), refuse .ensures .1 _)
 
 returns-3 : tie.Need-returns-3
 returns-3 c =
     let reach = c .before .before .before in
     let a = reach .before .before .before .before .before .before .before .before .before .args in
     let refuse = c .refuse2 in
-    (failed-performs _ (a .arguments .now) _ (a .restart-arguments .now) (a .image .now) _ _ (a .c) (a .k) _ (refuse .result) (a .d) (reach .reach .result) endOfCylinder (ap reachedOf (c .before .enum-told2 .given .1)) (reach .reach .ensures .0) (refuse .ensures .0), refuse .ensures .1 _)
+    (failed-performs _ (a .arguments .now) _ (a .restart-arguments .now) _ (a .image .now) _ _ (a .c) (a .k) _ (refuse .result) (a .d) (reach .reach .result) endOfCylinder (ap reachedOf (c .before .enum-told2 .given .1)) (reach .reach .ensures .0) (refuse .ensures .0), refuse .ensures .1 _)
 
 same-length : tie.Need-same-length
 same-length c = search needs
@@ -95,7 +95,7 @@ returns-4 c =
     let track = reach .before .single-track .ensures in
     let a = reach .before .before .before .before .before .before .before .before .before .args in
     let reached = rw (at-e .e .given .1) at (reach .reach .ensures .0) in
-    (reached-performs _ (a .arguments .now) _ (a .restart-arguments .now) (a .image .now) _ _ (a .c) (a .k) (a .storage .now) (done .result) (a .d) (at-e .e .given .0 .0) _ reached (rw track at (done .ensures .0)), done .ensures .1)
+    (reached-performs _ (a .arguments .now) _ (a .restart-arguments .now) _ (a .image .now) _ _ (a .c) (a .k) (a .storage .now) (done .result) (a .d) (at-e .e .given .0 .0) _ reached (rw track at (done .ensures .0)), done .ensures .1)
 
 pub perform-spec : {M : Type 1} → statement M
 perform-spec =

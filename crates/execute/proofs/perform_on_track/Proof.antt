@@ -56,7 +56,7 @@ returns c =
     let at-enum-told = c .before .before .before .before in
     let a = at-enum-told .before .before .before .before .before .before .before .before .before .args in
     let done = c .before .before .read-home in
-    (home-performs _ (a .arguments .now) _ (a .restart-arguments .now) (a .image .now) _ _ (a .c) (a .k) (a .storage .now) (done .result) _ _ (at-enum-told .enum-told .given .1) (done .ensures .0), done .ensures .1)
+    (home-performs _ (a .arguments .now) _ (a .restart-arguments .now) _ (a .image .now) _ _ (a .c) (a .k) (a .storage .now) (done .result) _ _ (at-enum-told .enum-told .given .1) (done .ensures .0), done .ensures .1)
 
 same-length-2 : tie.Need-same-length-2
 same-length-2 c = search needs
@@ -66,12 +66,12 @@ returns-2 c =
     let at-k = c .before .before .before .before .before in
     let a = at-k .before .before .before .before .before .before .before .before .before .args in
     let done = c .before .before .read-record in
-    (record-performs _ (a .arguments .now) _ (a .restart-arguments .now) (a .image .now) _ _ (a .c) (a .k) (a .storage .now) (done .result) _ _ _ (at-k .k .given .1) (done .ensures .0), done .ensures .1)
+    (record-performs _ (a .arguments .now) _ (a .restart-arguments .now) _ (a .image .now) _ _ (a .c) (a .k) (a .storage .now) (done .result) _ _ _ (at-k .k .given .1) (done .ensures .0), done .ensures .1)
 
 returns-3 : tie.Need-returns-3
 returns-3 c =
     let a = c .before .before .before .before .before .before .before .before .before .args in
-    (other-performs (a .chain .now) (a .arguments .now) (a .program .now) (a .restart-arguments .now) (a .image .now) (a .faults .now) _ (a .c) (a .k) (a .storage .now) (c .perform .result) _ (c .perform .ensures .0), c .perform .ensures .1)
+    (other-performs (a .chain .now) (a .arguments .now) (a .program .now) (a .restart-arguments .now) _ (a .image .now) (a .faults .now) _ (a .c) (a .k) (a .storage .now) (c .perform .result) _ (c .perform .ensures .0), c .perform .ensures .1)
 
 pub perform-on-track-spec : {M : Type 1} → statement M
 perform-on-track-spec =

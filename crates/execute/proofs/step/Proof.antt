@@ -32,7 +32,7 @@ returns c =
     let at-resolve = c .before .before .before .before in
     let entry = at-resolve .before .before .before .before .before .before .before .before .before in
     let start = entry .args in
-    (broken _ _ _ _ (start .s) _ _ (start .storage .now) (c .program-check .result) _ (rw (c .before .before .l .given .1) at (at-resolve .resolve .ensures .0)) (c .program-check .ensures .0), c .program-check .ensures .1 _)
+    (broken _ _ _ _ (start .s) _ _ _ (start .storage .now) (c .program-check .result) _ (rw (c .before .before .l .given .1) at (at-resolve .resolve .ensures .0)) (c .program-check .ensures .0), c .program-check .ensures .1 _)
 
 same-length : tie.Need-same-length
 same-length c = search needs
@@ -44,7 +44,7 @@ returns-2 c =
     let entry = at-resolve .before .before .before .before .before .before .before .before .before in
     let start = entry .args in
     let done = c .before .before .execute in
-    (got _ _ _ _ (start .s) _ _ (start .storage .now) (done .result) _ _ _ (rw (at-l2 .l2 .given .1) at (at-resolve .resolve .ensures .0)) (done .ensures .0), done .ensures .1)
+    (got _ _ _ _ (start .s) _ _ _ (start .storage .now) (done .result) _ _ _ (rw (at-l2 .l2 .given .1) at (at-resolve .resolve .ensures .0)) (done .ensures .0), done .ensures .1)
 
 pub step-spec : {M : Type 1} → statement M
 step-spec =

@@ -1,5 +1,11 @@
--- `giruve::giruve_recover` meets its contract: the answer area's length, and then what `recover::recover` comes to. Assumes nothing.
-use Rattle.recover.specs.Recover.{recoverCall}
+-- `giruve::giruve_recover` meets its contract: the answer area's length, the model by its number, and then what `recover::recover` comes to. Assumes nothing.
+use mathlib.Core.Path.{refl, _∙_}
+use Rattle.questions.specs.declared.Question.the-variants as Question
+use Rattle.recovered.specs.declared.Recovered.the-variants.{Refused}
+use Rattle.recover.specs.Recover.{refusal}
+use Rattle.recovery_answer.specs.RecoveryAnswer.{recoveryAnswerAfter}
+use Rattle.giruve.specs.Model.{recoverCallBy}
+use Rattle.giruve.proofs.Model.{by-known, by-unknown}
 use Rattle.giruve.proofs.Recover.{area-unfit, area-fits}
 use borrow.Author.Needs.{needs}
 use Rattle.giruve.proofs.giruve_recover.Statement.{statement}
@@ -11,8 +17,28 @@ number-requires c κs = search needs
 returns : tie.Need-returns
 returns c =
     let a = c .before .before .before .before .before .before .before .before .before .args in
-    let k = recoverCall (a .chain .now) (a .report .now) (a .extent .now) (a .storage .now) (a .program .now) (a .restart-arguments .now) in
+    let k = recoverCallBy (a .model) (a .chain .now) (a .report .now) (a .extent .now) (a .storage .now) (a .program .now) (a .restart-arguments .now) in
     area-unfit _ _ _ _ k (c .before .if1 .taken) _ (c .number .ensures)
+
+model-of-requires : tie.Need-model-of-requires
+model-of-requires c κs = search needs
+
+enum-known-m : tie.Need-enum-known-m
+enum-known-m c = search needs
+
+enum-told : tie.Need-enum-told
+enum-told c = search needs
+
+number-requires-2 : tie.Need-number-requires-2
+number-requires-2 c κs = search needs
+
+returns-2 : tie.Need-returns-2
+unfolding recoverCallBy refusal recoveryAnswerAfter
+returns-2 c =
+    let at-model-of = c .before .before .before in
+    let known = at-model-of .model-of in
+    let none = by-unknown _ (known .result) (known .ensures) _ _ (c .before .enum-told .given .1) in
+    area-fits _ _ _ _ _ (at-model-of .before .if1 .left) (Refused Question.Areas) _ _ _ none _ _ (c .number2 .ensures) refl
 
 recover-requires : tie.Need-recover-requires
 recover-requires c κs = search needs
@@ -32,16 +58,20 @@ same-length-3 c = search needs
 same-length-4 : tie.Need-same-length-4
 same-length-4 c = search needs
 
-returns-2 : tie.Need-returns-2
-returns-2 c =
+returns-3 : tie.Need-returns-3
+unfolding recoverCallBy
+returns-3 c =
     let at-recover = c .before .before .before .before .before .before .before .before .before .before in
-    let at-if1 = at-recover .before .before .before .before in
+    let at-m = at-recover .before .before .before .before .before in
+    let at-model-of = at-m .before .before in
+    let at-if1 = at-model-of .before in
     let start = at-if1 .before .before .before .before .before .before .before .before in
     let a = start .args in
-    let k = recoverCall (a .chain .now) (a .report .now) (a .extent .now) (a .storage .now) (a .program .now) (a .restart-arguments .now) in
     let r = at-recover .recover in
+    let known = at-model-of .model-of in
     let put = c .before .before .put in
-    area-fits _ (a .storage .now) (a .program .now) (a .restart-arguments .now) k (at-if1 .if1 .left) (r .result) _ _ _ (r .ensures .0) _ _ (put .ensures .0) (put .ensures .1)
+    let is = by-known _ (known .result) (known .ensures) _ _ _ (at-m .m .given .1) in
+    area-fits _ (a .storage .now) (a .program .now) (a .restart-arguments .now) _ (at-if1 .if1 .left) (r .result) _ _ _ (r .ensures .0 ∙ is) _ _ (put .ensures .0) (put .ensures .1)
 
 pub giruve-recover-spec : {M : Type 1} → statement M
 giruve-recover-spec =
@@ -49,10 +79,15 @@ giruve-recover-spec =
     (tie.spec
     number-requires
     returns
+    model-of-requires
+    enum-known-m
+    enum-told
+    number-requires-2
+    returns-2
     recover-requires
     put-requires
     same-length
     same-length-2
     same-length-3
     same-length-4
-    returns-2)
+    returns-3)

@@ -3,6 +3,7 @@
 use Prim.Native.Nat.{_-_, _≤_}
 use mathlib.Core.Path.{_≡_, refl, sym, _∙_}
 use lib.ListN.{length}
+use Rattle.address.specs.Model.{lastOf}
 use Rattle.image.specs.declared.Previous.the-variants.{Nothing}
 use Rattle.image.specs.Image.{wellFormed, wellFormedFrom}
 use Rattle.image.proofs.Pass.{all-sound}
@@ -12,10 +13,10 @@ use Rattle.image.proofs.well_formed.Statement.{statement}
 use Rattle.image.proofs.well_formed.Tie as tie
 
 abbrev Inv-loop : tie.InvT-loop
-Inv-loop image last here₀ b₀ here b = (wellFormedFrom last Nothing image 0 ≡ wellFormedFrom last b image here) × (here ≤ length image)
+Inv-loop m image here₀ b₀ here b = (wellFormedFrom (lastOf m) Nothing image 0 ≡ wellFormedFrom (lastOf m) b image here) × (here ≤ length image)
 
 abbrev μ-loop : tie.MeasureT-loop
-μ-loop image last here₀ b₀ here b = length image - here
+μ-loop m image here₀ b₀ here b = length image - here
 
 loop-holds : tie.Need-loop-holds Inv-loop μ-loop
 loop-holds c = (refl, omega arith)

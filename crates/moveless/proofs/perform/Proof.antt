@@ -79,22 +79,22 @@ refuse-requires-5 : tie.Need-refuse-requires-5
 refuse-requires-5 c κs = search needs
 
 returns : tie.Need-returns
-returns c = (λ p st e f. rw (c .before .enum-told .given .1) (noop-performs _ _ _ (c .no-operation .result) _ _ _ (c .no-operation .ensures .0) p st e f), c .no-operation .ensures .1)
+returns c = (λ p st e f. rw (c .before .enum-told .given .1) (noop-performs _ _ _ (c .no-operation .result) _ _ _ (c .no-operation .ensures .0) _ p st e f), c .no-operation .ensures .1)
 
 returns-2 : tie.Need-returns-2
 returns-2 c = (λ p st e f. rw (c .before .enum-told2 .given .1) (c .seek .ensures .0 p st e f), c .seek .ensures .1)
 
 returns-3 : tie.Need-returns-3
-returns-3 c = (λ p st e f. rw (c .before .enum-told3 .given .1) (c .set-mask .ensures .0 p st e f), c .set-mask .ensures .1)
+returns-3 c = (λ p st e f. rw (c .before .enum-told3 .given .1) (c .set-mask .ensures .0 _ p st e f), c .set-mask .ensures .1)
 
 returns-4 : tie.Need-returns-4
-returns-4 c = (λ p st e f. rw (c .before .enum-told4 .given .1) (c .set-sector .ensures .0 p st e f), c .set-sector .ensures .1)
+returns-4 c = (λ p st e f. rw (c .before .enum-told4 .given .1) (c .set-sector .ensures .0 _ p st e f), c .set-sector .ensures .1)
 
 returns-5 : tie.Need-returns-5
-returns-5 c = (λ p st e f. rw (c .before .enum-told5 .given .1) (c .search .ensures .0 p st e f), c .search .ensures .1)
+returns-5 c = (λ p st e f. rw (c .before .enum-told5 .given .1) (c .search .ensures .0 _ p st e f), c .search .ensures .1)
 
 returns-6 : tie.Need-returns-6
-returns-6 c = (λ p st e f. rw (c .before .enum-told6 .given .1) (unlisted-performs _ _ _ (c .refuse .result) _ _ _ (c .refuse .ensures .0) p st e f), c .refuse .ensures .1 _)
+returns-6 c = (λ p st e f. rw (c .before .enum-told6 .given .1) (unlisted-performs _ _ _ (c .refuse .result) _ _ _ (c .refuse .ensures .0) _ p st e f), c .refuse .ensures .1 _)
 
 returns-7 : tie.Need-returns-7
 returns-7 c = no-home (rw (c .before .enum-told7 .given .1) at (c .before .before .before .before .before .before .pre .1 .1 .1 .0))

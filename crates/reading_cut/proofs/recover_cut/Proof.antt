@@ -22,7 +22,7 @@ same-length-3 : tie.Need-same-length-3
 same-length-3 c = search needs
 
 returns : tie.Need-returns
-returns c = c .before .before .before .before .before .before .recover-told .ensures _ (c .before .before .before .before .before .before .before .before .before .before .told-by .ensures .0 _)
+returns c = c .before .before .before .before .before .before .recover-told .ensures _ (c .before .before .before .before .before .before .before .before .before .before .told-by .ensures .0 _ _)
 
 pub recover-cut-spec : {M : Type 1} → statement M
 recover-cut-spec =

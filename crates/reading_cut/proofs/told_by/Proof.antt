@@ -11,7 +11,7 @@ address-of-requires : tie.Need-address-of-requires
 address-of-requires c κs = search needs
 
 returns : tie.Need-returns
-returns c = let start = c .before .before .before .before .before .before in (told (start .args .k) _ (c .address-of .ensures), record { csw-low = start .pre .csw-low; user-on = tt })
+returns c = let start = c .before .before .before .before .before .before in (told (start .args .k) _ (c .address-of .ensures), record { csw-low = start .pre .csw-low; user-low = tt })
 
 pub told-by-spec : {M : Type 1} → statement M
 told-by-spec = tie.close (tie.spec cast-t9 address-of-requires returns)

@@ -194,8 +194,8 @@ loop-again c =
 enum-known-w : tie.Need-enum-known-w Inv-loop μ-loop
 enum-known-w c = search needs
 
-add-t45 : tie.Need-add-t45 Inv-loop μ-loop
-add-t45 c =
+add-t46 : tie.Need-add-t46 Inv-loop μ-loop
+add-t46 c =
     let at-loop = c .before .before .before .before .before .before .before .before .before .before .before .before .before .before .before .before .before .before .before .before .before in
     let start = at-loop .before .before .before .before .before .before .before .before .before in
     omega (arith, at-loop .loop .inv .0, start .pre .1 .1 .1 .0)
@@ -294,7 +294,7 @@ read-on-spec =
     loop-less
     loop-again
     enum-known-w
-    add-t45
+    add-t46
     same-length-13
     same-length-14
     same-length-15

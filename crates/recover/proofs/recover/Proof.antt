@@ -1,7 +1,7 @@
 -- `recover::recover` meets its contract: the questions in order. Assumes nothing.
 use mathlib.Core.Path.{sym, _∙_}
 use borrow.Author.Tests.{not-true, not-false}
-use Rattle.recover.proofs.Calls.{areas-say, wrong-areas, ill-formed, off-pack, answers}
+use Rattle.recover.proofs.Calls.{areas-say, told-in, wrong-areas, ill-formed, off-pack, answers}
 use Rattle.recover.proofs.Finished.{recovered-low}
 use borrow.Author.Needs.{needs}
 use Rattle.recover.proofs.recover.Statement.{statement}
@@ -11,7 +11,7 @@ areas-fit-requires : tie.Need-areas-fit-requires
 areas-fit-requires c κs = search needs
 
 returns : tie.Need-returns
-returns c = let a = c .before .before .before .before .before .before .before .before .args in (wrong-areas (a .chain .now) (a .report .now) (a .extent .now) (a .storage .now) (a .program .now) (a .restart-arguments .now) (sym (c .before .areas-fit .ensures) ∙ not-true _ (c .if1 .taken)), tt)
+returns c = let a = c .before .before .before .before .before .before .before .before .args in (wrong-areas (a .m) (a .chain .now) (a .report .now) (a .extent .now) (a .storage .now) (a .program .now) (a .restart-arguments .now) (sym (c .before .areas-fit .ensures) ∙ not-true _ (c .if1 .taken)), tt)
 
 read-requires : tie.Need-read-requires
 read-requires c κs = search needs
@@ -30,7 +30,7 @@ returns-2 c =
     let at-areas-fit = at-if1 .before in
     let start = at-areas-fit .before .before .before .before .before .before .before in
     let a = start .args in
-    (ill-formed (a .chain .now) (a .report .now) (a .extent .now) (a .storage .now) (a .program .now) (a .restart-arguments .now) (sym (at-areas-fit .areas-fit .ensures) ∙ not-false _ (at-if1 .if1 .left)) _ (at-q .q .given .0 .0) (at-read .read .ensures .0) (at-read .read .ensures .1) (at-q .q .given .1), tt)
+    (ill-formed (a .m) (a .chain .now) (a .report .now) (a .extent .now) (a .storage .now) (a .program .now) (a .restart-arguments .now) (sym (at-areas-fit .areas-fit .ensures) ∙ not-false _ (at-if1 .if1 .left)) _ (at-q .q .given .0 .0) (at-read .read .ensures .0) (at-read .read .ensures .1) (at-q .q .given .1), tt)
 
 extent-of-requires : tie.Need-extent-of-requires
 extent-of-requires c κs =
@@ -49,7 +49,7 @@ returns-3 c =
     let at-areas-fit = at-if1 .before in
     let start = at-areas-fit .before .before .before .before .before .before .before in
     let a = start .args in
-    (off-pack (a .chain .now) (a .report .now) (a .extent .now) (a .storage .now) (a .program .now) (a .restart-arguments .now) (sym (at-areas-fit .areas-fit .ensures) ∙ not-false _ (at-if1 .if1 .left)) _ _ (at-read .read .ensures .0) (at-w .w .given .1) _ (c .before .before .extent-of .ensures) (sym (c .before .on-pack .ensures) ∙ not-true _ (c .if2 .taken)), tt)
+    (off-pack (a .m) (a .chain .now) (a .report .now) (a .extent .now) (a .storage .now) (a .program .now) (a .restart-arguments .now) (sym (at-areas-fit .areas-fit .ensures) ∙ not-false _ (at-if1 .if1 .left)) _ _ (at-read .read .ensures .0) (at-w .w .given .1) _ (c .before .before .extent-of .ensures) (sym (c .before .on-pack .ensures) ∙ not-true _ (c .if2 .taken)), tt)
 
 tell-requires : tie.Need-tell-requires
 tell-requires c κs = let at-w = c .before .before .before .before in rw (at-w .w .given .1) at (at-w .before .before .read .ensures .1)
@@ -83,10 +83,11 @@ returns-4 c =
     let start = at-areas-fit .before .before .before .before .before .before .before in
     let a = start .args in
     let tells = at-tell .tell .ensures in
+    let told = told-in (a .m) (a .extent .now) _ _ _ (at-extent-of .extent-of .ensures) (tells .0) in
     let done = at-recover-told .recover-told .ensures in (
-      answers (a .chain .now) (a .report .now) (a .extent .now) (a .storage .now) (a .program .now) (a .restart-arguments .now) (sym (at-areas-fit .areas-fit .ensures) ∙ not-false _ (at-if1 .if1 .left)) _ _ (at-read .read .ensures .0) (at-w .w .given .1) _ (at-extent-of .extent-of .ensures) _ _
-          (sym (at-on-pack .on-pack .ensures) ∙ not-false _ (at-if2 .if2 .left)) (tells .0) done,
-      recovered-low _ _ _ _ _ _ (rw (tells .0 .csw) (tells .1 .csw-low)) (done _ (tells .0)),
+      answers (a .m) (a .chain .now) (a .report .now) (a .extent .now) (a .storage .now) (a .program .now) (a .restart-arguments .now) (sym (at-areas-fit .areas-fit .ensures) ∙ not-false _ (at-if1 .if1 .left)) _ _ (at-read .read .ensures .0) (at-w .w .given .1) _ (at-extent-of .extent-of .ensures) _ _
+          (sym (at-on-pack .on-pack .ensures) ∙ not-false _ (at-if2 .if2 .left)) told done,
+      recovered-low _ _ _ _ _ _ (rw (tells .0 .csw) (tells .1 .csw-low)) (done _ told),
     )
 
 pub recover-spec : {M : Type 1} → statement M

@@ -27,7 +27,7 @@ returns c =
     let b = start .pre in
     let user = c .user-of .ensures in (
       record { sense = c .before .sense-of .ensures; csw = refl; first = refl; mask = refl; user = sym (user .0); tries = refl },
-      record { csw-low = record { address = b .address; count = b .count }; user-on = user .1 },
+      record { csw-low = record { address = b .address; count = b .count }; user-low = user .1 },
     )
 
 pub tell-spec : {M : Type 1} → statement M

@@ -10,7 +10,7 @@ be16-requires : tie.Need-be16-requires
 be16-requires c κs = search needs
 
 returns : tie.Need-returns
-returns c = (first-other _ _ _ (c .before .be16 .ensures .0) (c .if1 .taken), tt)
+returns c = (first-other _ _ _ _ (c .before .be16 .ensures .0) (c .if1 .taken), tt)
 
 add-be16 : tie.Need-add-be16
 add-be16 c = search needs
@@ -35,7 +35,7 @@ returns-2 c =
     let start = at-be16 .before .before in
     let a = start .args in
     let no = sym (c .before .on-pack .ensures) ∙ not-true _ (c .if2 .taken) in
-    (not-on-pack (a .report .now) (a .at) _ (at-be16 .be16 .ensures .0) (at-if1 .if1 .left) _ (rw (at-be162 .be162 .ensures .0, c .before .before .be163 .ensures .0)) no, tt)
+    (not-on-pack _ (a .report .now) (a .at) _ (at-be16 .be16 .ensures .0) (at-if1 .if1 .left) _ (rw (at-be162 .be162 .ensures .0, c .before .before .be163 .ensures .0)) no, tt)
 
 returns-3 : tie.Need-returns-3
 returns-3 c =
@@ -45,7 +45,7 @@ returns-3 c =
     let start = at-be16 .before .before in
     let a = start .args in
     let yes = sym (c .before .on-pack .ensures) ∙ not-false _ (c .if2 .left) in
-    (names-track (a .report .now) (a .at) _ (at-be16 .be16 .ensures .0) (at-if1 .if1 .left) _ (rw (at-be162 .be162 .ensures .0, c .before .before .be163 .ensures .0)) yes, yes)
+    (names-track _ (a .report .now) (a .at) _ (at-be16 .be16 .ensures .0) (at-if1 .if1 .left) _ (rw (at-be162 .be162 .ensures .0, c .before .before .be163 .ensures .0)) yes, (at-be162 .be162 .ensures .1, c .before .before .be163 .ensures .1))
 
 pub user-track-spec : {M : Type 1} → statement M
 user-track-spec =

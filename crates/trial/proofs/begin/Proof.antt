@@ -12,7 +12,7 @@ well-formed-requires : tie.Need-well-formed-requires
 well-formed-requires c κs = search needs
 
 returns : tie.Need-returns
-returns c = (image-refused _ _ _ _ _ _ (sym (c .before .well-formed .ensures) ∙ not-true _ (c .if1 .taken)), tt)
+returns c = (image-refused _ _ _ _ _ _ _ (sym (c .before .well-formed .ensures) ∙ not-true _ (c .if1 .taken)), tt)
 
 sound-faults-requires : tie.Need-sound-faults-requires
 sound-faults-requires c κs = search needs
@@ -21,7 +21,7 @@ returns-2 : tie.Need-returns-2
 returns-2 c =
     let form = c .before .before in
     let w = sym (form .before .well-formed .ensures) ∙ not-false _ (form .if1 .left) in
-    (faults-refused _ _ _ _ _ _ w (sound-is _ _ _ w (c .before .sound-faults .ensures) (not-true _ (c .if2 .taken))), tt)
+    (faults-refused _ _ _ _ _ _ _ w (sound-is _ _ _ w (c .before .sound-faults .ensures) (not-true _ (c .if2 .taken))), tt)
 
 run-from-requires : tie.Need-run-from-requires
 run-from-requires c κs =
@@ -30,7 +30,7 @@ run-from-requires c κs =
     let w = sym (form .before .well-formed .ensures) ∙ not-false _ (form .if1 .left) in
     let f = sound-is _ _ _ w (c .before .before .sound-faults .ensures) (not-false _ (c .before .if2 .left)) in
     let q = start .pre in
-    (record { short = q .0; whole = w; listed = listed _ _ f }, q .1)
+    (record { short = q .0; whole = (_, w); listed = listed _ _ f }, q .1)
 
 same-length : tie.Need-same-length
 same-length c = search needs
@@ -47,7 +47,7 @@ returns-3 c =
     let l = listed _ _ f in
     let a = start .args in
     let p = lentOf (a .chain .now) (a .arguments .now) (a .program .now) (a .restart-arguments .now) in
-    (ran-so p _ _ _ _ _ w (l .0) (l .1) (l .2) (ran .run-from .result) _ (ran .run-from .ensures .0 (l .0) (l .1)), ran .run-from .ensures .1)
+    (ran-so _ p _ _ _ _ _ w (l .0) (l .1) (l .2) (ran .run-from .result) _ (ran .run-from .ensures .0 (l .0) (l .1)), ran .run-from .ensures .1)
 
 pub begin-spec : {M : Type 1} → statement M
 begin-spec =

@@ -12,7 +12,7 @@ run-areas-requires c κs = search needs
 
 returns : tie.Need-returns
 returns c =
-    (run-refused _ _ _ _ _ _ (sym (c .before .run-areas .ensures) ∙ not-true _ (c .if1 .taken)), tt)
+    (run-refused _ _ _ _ _ _ _ (sym (c .before .run-areas .ensures) ∙ not-true _ (c .if1 .taken)), tt)
 
 slice-aggregate-begin : tie.Need-slice-aggregate-begin
 slice-aggregate-begin c = search needs
@@ -36,7 +36,7 @@ returns-2 c =
     let at-run-areas = at-if1 .before in
     let h = sym (at-run-areas .run-areas .ensures) ∙ not-false _ (at-if1 .if1 .left) in
     let begun = c .before .before .begin .ensures in
-    (run-fits _ _ _ _ _ _ h _ (begun .0), begun .1)
+    (run-fits _ _ _ _ _ _ _ h _ (begun .0), begun .1)
 
 pub run-spec : {M : Type 1} → statement M
 run-spec =

@@ -2,6 +2,7 @@
 -- them come to; the drive stands in the image, and a CSW can show the state. Measure: the commands left. Assumes nothing.
 use mathlib.Core.Path.{_≡_, refl}
 use lib.ListN.{length}
+use Rattle.address.specs.Model.{lastOf}
 use Rattle.position.specs.Standing.{Standing}
 use Rattle.command.specs.Answer.{StateLow}
 use Rattle.trial.proofs.Runs.{Alike, goes-on, ends-so, cut-so, out}
@@ -10,14 +11,14 @@ use Rattle.trial.proofs.run_on.Statement.{statement}
 use Rattle.trial.proofs.run_on.Tie as tie
 
 abbrev Inv-loop : tie.InvT-loop
-Inv-loop chain arguments program restartArguments image faults limit storage₀ here₀ left₀ storage here left =
+Inv-loop m chain arguments program restartArguments image faults limit storage₀ here₀ left₀ storage here left =
     (length storage ≡ length storage₀)
     × Standing image (here .drive)
     × StateLow here
-    × Alike chain arguments program restartArguments image faults left here storage left₀ here₀ storage₀
+    × Alike (lastOf m) chain arguments program restartArguments image faults left here storage left₀ here₀ storage₀
 
 abbrev μ-loop : tie.MeasureT-loop
-μ-loop chain arguments program restartArguments image faults limit storage₀ here₀ left₀ storage here left = left
+μ-loop m chain arguments program restartArguments image faults limit storage₀ here₀ left₀ storage here left = left
 
 loop-holds : tie.Need-loop-holds Inv-loop μ-loop
 loop-holds c =
@@ -45,7 +46,7 @@ loop-again c =
     let s₀ = call .before .before .before .before .before .before .before .before .before .before .before .args .s in
     let k = rw (c .before .t .given .1) at (call .step .ensures .1) in
     let e = rw (c .before .t .given .1) at (call .step .ensures .0) in
-    (search needs, k .0, k .1, goes-on _ _ _ _ _ _ _ s₀ _ _ (at .here) _ (at .inv .3) (c .before .t .given .0 .0) _ (call .before .before .loop-test .taken) e)
+    (search needs, k .0, k .1, goes-on _ _ _ _ _ _ _ _ s₀ _ _ (at .here) _ (at .inv .3) (c .before .t .given .0 .0) _ (call .before .before .loop-test .taken) e)
 
 enum-known-e : tie.Need-enum-known-e Inv-loop μ-loop
 enum-known-e c = search needs
@@ -59,7 +60,7 @@ returns c =
     let at = call .before .before .before .loop in
     let s₀ = call .before .before .before .before .before .before .before .before .before .before .before .args .s in
     let e = rw (c .before .e .given .1) at (call .step .ensures .0) in
-    (ends-so _ _ _ _ _ _ _ s₀ _ _ (at .here) _ (at .inv .3) (c .before .e .given .0 .0) _ (call .before .before .loop-test .taken) e, rw (c .before .e .given .1) at (call .step .ensures .1))
+    (ends-so _ _ _ _ _ _ _ _ s₀ _ _ (at .here) _ (at .inv .3) (c .before .e .given .0 .0) _ (call .before .before .loop-test .taken) e, rw (c .before .e .given .1) at (call .step .ensures .1))
 
 enum-known-k : tie.Need-enum-known-k Inv-loop μ-loop
 enum-known-k c = search needs
@@ -73,7 +74,7 @@ returns-2 c =
     let at = call .before .before .before .loop in
     let s₀ = call .before .before .before .before .before .before .before .before .before .before .before .args .s in
     let e = rw (c .before .k .given .1) at (call .step .ensures .0) in
-    (cut-so _ _ _ _ _ _ _ s₀ _ _ (at .here) _ (at .inv .3) (c .before .k .given .0 .0) _ (call .before .before .loop-test .taken) e, rw (c .before .k .given .1) at (call .step .ensures .1))
+    (cut-so _ _ _ _ _ _ _ _ s₀ _ _ (at .here) _ (at .inv .3) (c .before .k .given .0 .0) _ (call .before .before .loop-test .taken) e, rw (c .before .k .given .1) at (call .step .ensures .1))
 
 csw-at-requires : tie.Need-csw-at-requires Inv-loop μ-loop
 csw-at-requires c κs = let low = c .before .before .loop .inv .2 in (low .last-low, low .left-low)
@@ -86,7 +87,7 @@ returns-3 c =
     let at-test = c .before .before in
     let at = at-test .before .loop in
     let s₀ = at-test .before .before .before .before .before .before .before .before .before .args .s in
-    (out _ _ _ _ _ _ _ s₀ _ _ (at .here) _ (at .inv .3) (at-test .loop-test .left) _ (c .csw-at .ensures .0), c .csw-at .ensures .1)
+    (out _ _ _ _ _ _ _ _ s₀ _ _ (at .here) _ (at .inv .3) (at-test .loop-test .left) _ (c .csw-at .ensures .0), c .csw-at .ensures .1)
 
 pub run-on-spec : {M : Type 1} → statement M
 run-on-spec =

@@ -11,7 +11,7 @@ run-areas-requires c κs = search needs
 
 returns : tie.Need-returns
 returns c =
-    (restart-refused _ _ _ _ _ _ _ (sym (c .before .run-areas .ensures) ∙ not-true _ (c .if1 .taken)), tt)
+    (restart-refused _ _ _ _ _ _ _ _ (sym (c .before .run-areas .ensures) ∙ not-true _ (c .if1 .taken)), tt)
 
 restart-areas-requires : tie.Need-restart-areas-requires
 restart-areas-requires c κs = search needs
@@ -19,7 +19,7 @@ restart-areas-requires c κs = search needs
 returns-2 : tie.Need-returns-2
 returns-2 c =
     let h = sym (c .before .before .before .run-areas .ensures) ∙ not-false _ (c .before .before .if1 .left) in
-    (program-refused _ _ _ _ _ _ _ h (sym (c .before .restart-areas .ensures) ∙ not-true _ (c .if2 .taken)), tt)
+    (program-refused _ _ _ _ _ _ _ _ h (sym (c .before .restart-areas .ensures) ∙ not-true _ (c .if2 .taken)), tt)
 
 begin-requires : tie.Need-begin-requires
 begin-requires c κs =
@@ -41,7 +41,7 @@ returns-3 c =
     let h = sym (at-run-areas .run-areas .ensures) ∙ not-false _ (at-if1 .if1 .left) in
     let g = sym (at-restart-areas .restart-areas .ensures) ∙ not-false _ (at-if2 .if2 .left) in
     let begun = c .before .before .begin .ensures in
-    (restart-fits _ _ _ _ _ _ _ h g _ (begun .0), begun .1)
+    (restart-fits _ _ _ _ _ _ _ _ h g _ (begun .0), begun .1)
 
 pub run-restart-spec : {M : Type 1} → statement M
 run-restart-spec =

@@ -15,7 +15,7 @@ areas-fit-requires c κs = search needs
 returns : tie.Need-returns
 returns c =
     let a = c .before .before .before .before .before .before .before .before .before .before .before .args in
-    (wrong-areas (a .chain .now) (a .arguments .now) (a .storage .now) (a .image .now) (a .faults .now) (a .extent .now) (a .limit) (a .program .now) (a .restart-arguments .now) (a .list .now) (sym (c .before .areas-fit .ensures) ∙ not-true _ (c .if1 .taken)), (tt, tt))
+    (wrong-areas (a .m) (a .chain .now) (a .arguments .now) (a .storage .now) (a .image .now) (a .faults .now) (a .extent .now) (a .limit) (a .program .now) (a .restart-arguments .now) (a .list .now) (sym (c .before .areas-fit .ensures) ∙ not-true _ (c .if1 .taken)), (tt, tt))
 
 well-formed-requires : tie.Need-well-formed-requires
 well-formed-requires c κs = search needs
@@ -25,7 +25,7 @@ returns-2 c =
     let at-areas-fit = c .before .before .before in
     let start = at-areas-fit .before .before .before .before .before .before .before .before .before .before in
     let a = start .args in
-    (ill-image (a .chain .now) (a .arguments .now) (a .storage .now) (a .image .now) (a .faults .now) (a .extent .now) (a .limit) (a .program .now) (a .restart-arguments .now) (a .list .now) (sym (at-areas-fit .areas-fit .ensures) ∙ not-false _ (c .before .before .if1 .left)) (sym (c .before .well-formed .ensures) ∙ not-true _ (c .if2 .taken)), (tt, tt))
+    (ill-image (a .m) (a .chain .now) (a .arguments .now) (a .storage .now) (a .image .now) (a .faults .now) (a .extent .now) (a .limit) (a .program .now) (a .restart-arguments .now) (a .list .now) (sym (at-areas-fit .areas-fit .ensures) ∙ not-false _ (c .before .before .if1 .left)) (sym (c .before .well-formed .ensures) ∙ not-true _ (c .if2 .taken)), (tt, tt))
 
 sound-faults-requires : tie.Need-sound-faults-requires
 sound-faults-requires c κs = search needs
@@ -38,7 +38,7 @@ returns-3 c =
     let start = at-areas-fit .before .before .before .before .before .before .before .before .before .before in
     let a = start .args in
     let w = sym (at-well-formed .well-formed .ensures) ∙ not-false _ (c .before .before .if2 .left) in
-    (ill-faults (a .chain .now) (a .arguments .now) (a .storage .now) (a .image .now) (a .faults .now) (a .extent .now) (a .limit) (a .program .now) (a .restart-arguments .now) (a .list .now) (sym (at-areas-fit .areas-fit .ensures) ∙ not-false _ (at-if1 .if1 .left)) w (sound-is _ _ _ w (c .before .sound-faults .ensures) (not-true _ (c .if3 .taken))), (tt, tt))
+    (ill-faults (a .m) (a .chain .now) (a .arguments .now) (a .storage .now) (a .image .now) (a .faults .now) (a .extent .now) (a .limit) (a .program .now) (a .restart-arguments .now) (a .list .now) (sym (at-areas-fit .areas-fit .ensures) ∙ not-false _ (at-if1 .if1 .left)) w (sound-is _ _ _ w (c .before .sound-faults .ensures) (not-true _ (c .if3 .taken))), (tt, tt))
 
 extent-of-requires : tie.Need-extent-of-requires
 extent-of-requires c κs =
@@ -61,7 +61,7 @@ returns-4 c =
     let a = start .args in
     let w = sym (at-well-formed .well-formed .ensures) ∙ not-false _ (at-if2 .if2 .left) in
     let l = listed _ _ (sound-is _ _ _ w (at-sound-faults .sound-faults .ensures) (not-false _ (at-if3 .if3 .left))) in
-    (off-pack (a .chain .now) (a .arguments .now) (a .storage .now) (a .image .now) (a .faults .now) (a .extent .now) (a .limit) (a .program .now) (a .restart-arguments .now) (a .list .now) (sym (at-areas-fit .areas-fit .ensures) ∙ not-false _ (at-if1 .if1 .left)) w (l .0) (l .1) (l .2) _ (c .before .before .extent-of .ensures) (sym (c .before .on-pack .ensures) ∙ not-true _ (c .if4 .taken)), (tt, tt))
+    (off-pack (a .m) (a .chain .now) (a .arguments .now) (a .storage .now) (a .image .now) (a .faults .now) (a .extent .now) (a .limit) (a .program .now) (a .restart-arguments .now) (a .list .now) (sym (at-areas-fit .areas-fit .ensures) ∙ not-false _ (at-if1 .if1 .left)) w (l .0) (l .1) (l .2) _ (c .before .before .extent-of .ensures) (sym (c .before .on-pack .ensures) ∙ not-true _ (c .if4 .taken)), (tt, tt))
 
 slice-aggregate-run-from : tie.Need-slice-aggregate-run-from
 slice-aggregate-run-from c = search needs
@@ -79,7 +79,7 @@ run-from-requires c κs =
     let at-areas-fit = at-if1 .before in
     let w = sym (at-well-formed .well-formed .ensures) ∙ not-false _ (at-if2 .if2 .left) in
     let fit = areas-say _ _ _ _ _ _ _ _ _ _ (sym (at-areas-fit .areas-fit .ensures) ∙ not-false _ (at-if1 .if1 .left)) in
-    (record { short = (fit .chain-short, omega arith); whole = w; listed = listed _ _ (sound-is _ _ _ w (at-sound-faults .sound-faults .ensures) (not-false _ (at-if3 .if3 .left))) }, low-chain)
+    (record { short = (fit .chain-short, omega arith); whole = (_, w); listed = listed _ _ (sound-is _ _ _ w (at-sound-faults .sound-faults .ensures) (not-false _ (at-if3 .if3 .left))) }, low-chain)
 
 read-on-requires : tie.Need-read-on-requires
 read-on-requires c κs =
@@ -93,7 +93,7 @@ read-on-requires c κs =
     let at-areas-fit = at-if1 .before in
     let w = sym (at-well-formed .well-formed .ensures) ∙ not-false _ (at-if2 .if2 .left) in
     let fit = areas-say _ _ _ _ _ _ _ _ _ _ (sym (at-areas-fit .areas-fit .ensures) ∙ not-false _ (at-if1 .if1 .left)) in (
-      record { short = (fit .chain-short, omega (arith, fit .program-full)); whole = w; listed = listed _ _ (sound-is _ _ _ w (at-sound-faults .sound-faults .ensures) (not-false _ (at-if3 .if3 .left))) },
+      record { short = (fit .chain-short, omega (arith, fit .program-full)); whole = (_, w); listed = listed _ _ (sound-is _ _ _ w (at-sound-faults .sound-faults .ensures) (not-false _ (at-if3 .if3 .left))) },
       (
         record {
           chain-short = fit .chain-short;
@@ -135,7 +135,7 @@ returns-5 c =
     let w = sym (at-well-formed .well-formed .ensures) ∙ not-false _ (at-if2 .if2 .left) in
     let l = listed _ _ (sound-is _ _ _ w (at-sound-faults .sound-faults .ensures) (not-false _ (at-if3 .if3 .left))) in
     let on = at-read-on .read-on in
-    (read-so (a .chain .now) (a .arguments .now) (a .storage .now) (a .image .now) (a .faults .now) (a .extent .now) (a .limit) (a .program .now) (a .restart-arguments .now) (a .list .now) (sym (at-areas-fit .areas-fit .ensures) ∙ not-false _ (at-if1 .if1 .left)) w (l .0) (l .1) (l .2) _ (at-extent-of .extent-of .ensures) (sym (at-on-pack .on-pack .ensures) ∙ not-false _ (at-if4 .if4 .left)) (at-run-from .run-from .result) _ (at-run-from .run-from .ensures .0) (on .result) _ (on .ensures .0), on .ensures .1)
+    (read-so (a .m) (a .chain .now) (a .arguments .now) (a .storage .now) (a .image .now) (a .faults .now) (a .extent .now) (a .limit) (a .program .now) (a .restart-arguments .now) (a .list .now) (sym (at-areas-fit .areas-fit .ensures) ∙ not-false _ (at-if1 .if1 .left)) w (l .0) (l .1) (l .2) _ (at-extent-of .extent-of .ensures) (sym (at-on-pack .on-pack .ensures) ∙ not-false _ (at-if4 .if4 .left)) (at-run-from .run-from .result) _ (at-run-from .run-from .ensures .0) (on .result) _ (on .ensures .0), on .ensures .1)
 
 pub read-spec : {M : Type 1} → statement M
 read-spec =

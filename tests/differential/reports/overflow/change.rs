@@ -2,6 +2,7 @@
 //! leave it as good as it was.
 
 use crate::generate;
+use crate::models::BORDERS;
 use crate::random::Random;
 use crate::reports::{any_mask, change as of_any, Planned};
 use crate::simulator::channel::{
@@ -9,8 +10,8 @@ use crate::simulator::channel::{
 };
 use crate::simulator::drive::{READ_COUNT, READ_COUNT_MULTITRACK, READ_HOME_ADDRESS, TAKING_DATA};
 use crate::simulator::encode;
+use crate::simulator::extent::whole_pack;
 use crate::simulator::pack::LAST_HEAD;
-use crate::simulator::LAST_CYLINDER;
 
 /// Every fourth time a change that reports of any action have.
 pub fn changed(random: &mut Random, turn: usize, planned: &Planned) -> (&'static str, Planned) {
@@ -70,8 +71,10 @@ const CHANGES: [Change; 38] = [
         argument[random.below(2)] = random.nonzero_byte();
     }),
     ("cylinder off the pack", |random, planned| {
-        let any = random.within(LAST_CYLINDER as usize + 1..=0xFFFF) as u16;
-        let cylinder = random.pick(&[LAST_CYLINDER + 1, any]);
+        let behind = planned.model.last_cylinder() + 1;
+        let any = random.within(behind.into()..=0xFFFF) as u16;
+        let border = random.pick(&BORDERS).max(behind);
+        let cylinder = random.pick(&[border, any]);
         let argument = planned.report.seek_argument.get_or_insert_default();
         argument[2..4].copy_from_slice(&cylinder.to_be_bytes());
     }),
@@ -217,13 +220,13 @@ const CHANGES: [Change; 38] = [
     }),
     ("at the end of the pack", |random, planned| {
         let head = random.within(0..=LAST_HEAD.into()) as u8;
-        let [c0, c1] = LAST_CYLINDER.to_be_bytes();
+        let [c0, c1] = planned.model.last_cylinder().to_be_bytes();
         planned.report.seek_argument = Some([0, 0, c0, c1, 0, head]);
         planned.report.sense[6] = LAST_HEAD as u8;
-        planned.extent = generate::extent_of([0, generate::TRACKS - 1]);
+        planned.extent = whole_pack(planned.model).to_vec();
     }),
     ("other extent", |random, planned| {
-        planned.extent = generate::extent(random);
+        planned.extent = generate::extent(random, planned.model);
     }),
     ("other mask", |random, planned| {
         planned.report.mask = any_mask(random);

@@ -10,6 +10,7 @@ use super::{any_mask, any_seek_argument, any_tries, extent_around, GeneratedReco
 use crate::random::Random;
 use crate::simulator::drive::READ_DATA;
 use crate::simulator::interrupted::{next_cylinder, next_track};
+use crate::simulator::model::Model;
 use crate::simulator::pack::{TrackAddress, LAST_HEAD};
 use crate::simulator::recovery::{RestartAction, DATA_AREA_FORMAT};
 use crate::simulator::report::{Report, HEAD_REACHED};
@@ -42,7 +43,8 @@ pub fn generated(random: &mut Random, turn: usize) -> Vec<(&'static str, Generat
 
 /// What no row and no question asks for is any.
 fn interrupted(random: &mut Random, action: RestartAction, read: PartlyRead) -> Planned {
-    let argument = any_seek_argument(random);
+    let model = random.pick(Model::ALL);
+    let argument = any_seek_argument(random, model);
     let sought = TrackAddress::decode(&argument[2..]);
     let mut sense: [u8; 24] = random.bytes(24).try_into().expect("24 bytes");
     sense[0] &= 0x03;
@@ -73,6 +75,7 @@ fn interrupted(random: &mut Random, action: RestartAction, read: PartlyRead) -> 
         _ => next_track(reached),
     };
     Planned {
+        model,
         chain: read.chain,
         storage: random.bytes(read.storage),
         report: Report {
@@ -83,7 +86,7 @@ fn interrupted(random: &mut Random, action: RestartAction, read: PartlyRead) -> 
             seek_argument: Some(argument),
             tries: any_tries(random),
         },
-        extent: extent_around(random, target),
+        extent: extent_around(random, model, target),
     }
 }
 

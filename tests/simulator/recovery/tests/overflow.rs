@@ -70,6 +70,7 @@ fn number_7_without_9_and_11() {
         let mut call = Call::overflow(front);
         let report = encode::report(&call.report);
         let lent = Lent {
+            model: call.model,
             chain: &call.chain,
             report: &report,
             extent: &call.extent,
@@ -79,7 +80,7 @@ fn number_7_without_9_and_11() {
             program: &mut call.program,
             restart_arguments: &mut call.arguments,
         };
-        let refused = recover_without_overflow(lent, areas, LAST_CYLINDER);
+        let refused = recover_without_overflow(lent, areas);
         assert_eq!(refused.map_err(Refusal::number), Err(7));
         assert_eq!((call.program, call.arguments), ([0xA5; 64], [0xA5; 16]));
     }
@@ -238,16 +239,23 @@ fn head_reached_in_11_alone() {
 
 #[test]
 fn action_2_for_9_and_11() {
-    let last = |call: &mut Call| call.report.seek_argument = Some([0, 0, 1, 0x9A, 0, 0]);
     let not_built = |action, why| Ok(Answer::NotBuilt(action, why));
-    let nine = Call::overflow(NINE).with(last);
-    let off = not_built(RestartAction::Nine, NotBuilt::OffThePack);
-    assert_eq!(nine.untouched(), off);
-    let eleven = Call::overflow(ELEVEN).with(last);
-    assert_eq!(eleven.clone().restart().2[2..6], [1, 0x9A, 0, 18]);
-    let eleven = eleven.with(|call| call.report.sense[6] = 18);
-    let off = not_built(RestartAction::Eleven, NotBuilt::OffThePack);
-    assert_eq!(eleven.untouched(), off);
+    for (model, cylinder) in [(Model::One, 410), (Model::Eleven, 814)] {
+        let [c0, c1] = u16::to_be_bytes(cylinder);
+        let nine = Call::overflow(NINE).on(model, cylinder, 0);
+        let off = not_built(RestartAction::Nine, NotBuilt::OffThePack);
+        assert_eq!(nine.untouched(), off);
+        let eleven = Call::overflow(ELEVEN).on(model, cylinder, 0);
+        assert_eq!(eleven.clone().restart().2[2..6], [c0, c1, 0, 18]);
+        let eleven = eleven.with(|call| call.report.sense[6] = 18);
+        let off = not_built(RestartAction::Eleven, NotBuilt::OffThePack);
+        assert_eq!(eleven.untouched(), off);
+    }
+    for (front, _) in BOTH {
+        let call = Call::overflow(front).on(Model::Eleven, 410, 0);
+        let call = call.with(|call| call.report.sense[6] = 18);
+        assert_eq!(call.restart().2[2..6], [0x01, 0x9B, 0, 0]);
+    }
     for (front, action) in BOTH {
         let call = Call::overflow(front).with(|call| call.extent = [0, 8, 0, 0, 0, 8, 0, 17]);
         let outside = not_built(action, NotBuilt::OutsideTheExtent);
