@@ -1,4 +1,6 @@
 // Actions 8, 10 and 10A: a restart that begins at the home address of a track.
+#![tactic(auto)]
+
 ghost use Rattle.std.specs.Prelude.{◌≡◌, ◌<◌, ◌≤◌, length};
 ghost use Rattle.restart.specs.declared.ReadCount.TheVariants.{Omitted};
 ghost use Rattle.recovery.specs.Recovery as Recovery;

@@ -1,4 +1,6 @@
 // Action 5: what is decided by the report of a correctable data check.
+#![tactic(auto)]
+
 ghost use Rattle.std.specs.Prelude.{◌≡◌, ◌||◌, not, [], ◌<◌, ◌≤◌, length};
 ghost use Rattle.channel.specs.declared.Location.TheVariants.{Chain};
 ghost use Rattle.channel.specs.Ccw.{chains_command};

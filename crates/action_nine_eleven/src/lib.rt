@@ -1,4 +1,6 @@
 // Actions 9 and 11: whether report and chain agree on where a read of an overflow record was cut, and the restart from there.
+#![tactic(auto)]
+
 ghost use Rattle.std.specs.Prelude.{◌≡◌, true, [], ◌≤◌, length};
 ghost use Rattle.location.specs.Low.{Low};
 ghost use Rattle.channel.specs.Fetch.{InBytes, Inside};
@@ -18,7 +20,7 @@ use recovered::{Kind, Recovered};
 use report::{Told, User};
 
 // How the data chain ended, or a program check.
-#[derive(Drop)]
+#[derive(Clone, Copy)]
 pub enum Walked {
     Ended(WalkEnd),
     Checked,

@@ -1,4 +1,6 @@
 // The models of a pack, track addresses, their order, and the extent.
+#![tactic(auto)]
+
 ghost use Rattle.std.specs.Prelude.{◌≡◌, length};
 ghost use Rattle.address.specs.Model.{model_of, known_of, last_of};
 ghost use Rattle.address.specs.Order.{same, before, on_pack};
@@ -7,14 +9,14 @@ ghost use Rattle.address.specs.Within.{extent_of, within, sound_extent, extent_a
 use questions::{Checked, Question};
 
 // The model of a pack: 1 or 11.
-#[derive(Drop)]
+#[derive(Clone, Copy)]
 pub enum Model {
     One,
     Eleven,
 }
 
 // What a number says of the model.
-#[derive(Drop)]
+#[derive(Clone, Copy)]
 pub enum Known {
     Model(Model),
     Unknown,
@@ -43,7 +45,7 @@ pub fn last_cylinder(m: Model) -> usize
     }
 }
 
-#[derive(Drop)]
+#[derive(Clone, Copy)]
 pub struct Address {
     pub cylinder: usize,
     pub head: usize,
@@ -84,7 +86,7 @@ impl Address {
 }
 
 // From the first track to the last one, both included, on a pack of a model.
-#[derive(Drop)]
+#[derive(Clone, Copy)]
 pub struct Extent {
     pub first: Address,
     pub last: Address,

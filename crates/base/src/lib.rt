@@ -1,4 +1,6 @@
 // Bytes as numbers, numbers of several bytes, bits, and displacements. Numbers are big-endian; bit 0 of a byte is its highest.
+#![tactic(auto)]
+
 ghost use Rattle.std.specs.Prelude.{◌≡◌, ◌+◌, ◌-◌, ◌<◌, ◌≤◌, length, get_or};
 ghost use Rattle.base.specs.Bytes.{be16_at, be24_at};
 ghost use Rattle.base.specs.Bits.{bit_on, xored_at};
@@ -56,11 +58,11 @@ pub fn exclusive_or(bytes: &mut [u8], at: usize, x: u8)
 }
 
 // A count of bytes from the front of a read.
-#[derive(Drop)]
+#[derive(Clone, Copy)]
 pub struct FromFront(pub usize);
 
 // A count of bytes back from the end of a data area.
-#[derive(Drop)]
+#[derive(Clone, Copy)]
 pub struct FromEnd(pub usize);
 
 impl FromEnd {

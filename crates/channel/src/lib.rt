@@ -1,5 +1,7 @@
 // Channel command words: where they stand, how the next one is found, and the bytes of a read through a data chain.
 // No knowledge of disks.
+#![tactic(auto)]
+
 ghost use Rattle.std.specs.Prelude.{◌≡◌, ◌+◌, ◌≤◌, length};
 ghost use Rattle.channel.specs.Ccw.{ccw_at, is_tic, chains_data, chains_command};
 ghost use Rattle.channel.specs.Walk.{incorrect_length};
@@ -7,7 +9,7 @@ ghost use Rattle.channel.specs.Fetch.{shows_length, stands_at, stands_in, ccw_in
 
 // A CCW's fields; its ignored byte is left out. Numbers stand before bytes here and in other structs of a step, so that no padding
 // lies between: the compiler would move it along.
-#[derive(Drop)]
+#[derive(Clone, Copy)]
 pub struct Ccw {
     pub address: usize,
     pub count: usize,
@@ -16,14 +18,14 @@ pub struct Ccw {
 }
 
 // A CCW's place: in the chain, or in a restart program, counted from that area's front.
-#[derive(Drop)]
+#[derive(Clone, Copy)]
 pub enum Location {
     Chain(usize),
     Restart(usize),
 }
 
 // The CCW that comes next, through at most one TIC; or a program check, with the CCW that was fetched last.
-#[derive(Drop)]
+#[derive(Clone, Copy)]
 pub enum Fetched {
     Got(Location, Ccw),
     Broken(Location),
@@ -46,7 +48,7 @@ pub const INCORRECT_LENGTH: u8 = 0x40;
 pub const PROGRAM_CHECK: u8 = 0x20;
 
 // The channel status word: its address, the count left, unit and channel status.
-#[derive(Drop)]
+#[derive(Clone, Copy)]
 pub struct Csw {
     pub address: usize,
     pub count: usize,
@@ -55,7 +57,7 @@ pub struct Csw {
 }
 
 // What stands at a CCW address of an area.
-#[derive(Drop)]
+#[derive(Clone, Copy)]
 pub enum Slot {
     Holds(Ccw),
     Past,

@@ -1,4 +1,6 @@
 // What one command comes to, and how a command ends.
+#![tactic(auto)]
+
 ghost use Rattle.std.specs.Prelude.{◌<◌};
 ghost use Rattle.channel.specs.Fetch.{InBytes};
 ghost use Rattle.location.specs.Low.{Low};
@@ -13,7 +15,7 @@ use drive::FileMask;
 use position::Drive;
 
 // The unit checks that are no data check.
-#[derive(Drop)]
+#[derive(Clone, Copy)]
 pub enum Check {
     Rejected,
     NotFound,
@@ -23,7 +25,7 @@ pub enum Check {
 
 // Why a chain ended: of itself or by a program check; by a unit check; by a step to the next head that the mask forbids, with the head
 // that the drive stands on.
-#[derive(Drop)]
+#[derive(Clone, Copy)]
 pub enum Status {
     Quiet,
     Refused(Check),
@@ -31,7 +33,7 @@ pub enum Status {
 }
 
 // Between two commands: the drive, the place of the next CCW, and the CCW that was fetched last with its count left.
-#[derive(Drop)]
+#[derive(Clone, Copy)]
 pub struct State {
     pub drive: Drive,
     pub at: Location,
@@ -40,7 +42,7 @@ pub struct State {
 }
 
 // A chain's end.
-#[derive(Drop)]
+#[derive(Clone, Copy)]
 pub struct End {
     pub csw: Csw,
     pub status: Status,
@@ -49,7 +51,7 @@ pub struct End {
 
 // A cut by a faulted data area: the CSW, the record, restart and error displacement, the first CCW of the read, the three pattern
 // bytes, whether the count ran out first, and the file mask.
-#[derive(Drop)]
+#[derive(Clone, Copy)]
 pub struct Cut {
     pub csw: Csw,
     pub at: Address,
@@ -64,7 +66,7 @@ pub struct Cut {
     pub mask: FileMask,
 }
 
-#[derive(Drop)]
+#[derive(Clone, Copy)]
 pub enum Answer {
     Goes(State),
     Ends(End),

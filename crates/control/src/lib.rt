@@ -1,4 +1,6 @@
 // The control commands: no-operation, seek, set file mask, set sector. They move no byte of storage.
+#![tactic(auto)]
+
 ghost use Rattle.std.specs.Prelude.{◌≡◌, ◌&&◌, ◌||◌, not, ◌+◌, ◌<◌, eqb, ltb};
 ghost use Rattle.address.specs.Model.{last_of};
 ghost use Rattle.channel.specs.Ccw.{chains_data};

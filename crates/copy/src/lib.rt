@@ -1,4 +1,6 @@
 // Bytes into a lent part.
+#![tactic(auto)]
+
 ghost use Rattle.std.specs.Prelude.{◌≡◌, ◌++◌, ◌≤◌, length, drop};
 
 // All of `from` at the front of `to`, byte by byte.

@@ -1,4 +1,6 @@
 // A read's data chain retraced, with no byte moved, and the correction of the bytes that stayed.
+#![tactic(auto)]
+
 ghost use Rattle.std.specs.Prelude.{◌≡◌, true, ◌||◌, not, [], ◌+◌, ◌≤◌, ltb};
 ghost use Rattle.base.specs.Choice.{pick};
 ghost use Rattle.channel.specs.Ccw.{chains_data};
@@ -10,14 +12,14 @@ ghost use Rattle.correction.specs.Retraced.{place_of, Retraces, NextUsable, Usab
 use channel::{Ccw, Fetched, Location};
 
 // Where a byte of the read stayed in storage, if it did.
-#[derive(Drop)]
+#[derive(Clone, Copy)]
 pub enum Stayed {
     At(usize),
     Nowhere,
 }
 
 // Of three bytes that follow each other.
-#[derive(Drop)]
+#[derive(Clone, Copy)]
 pub struct ThreeStayed {
     pub first: Stayed,
     pub second: Stayed,
@@ -25,7 +27,7 @@ pub struct ThreeStayed {
 }
 
 // Where a data chain ended: its last CCW, the count left there, whether bytes were left over, and where three bytes stayed.
-#[derive(Drop)]
+#[derive(Clone, Copy)]
 pub struct End {
     pub at: Location,
     pub ccw: Ccw,
@@ -35,14 +37,14 @@ pub struct End {
 }
 
 // How the data chain ended, or a program check.
-#[derive(Drop)]
+#[derive(Clone, Copy)]
 pub enum Retraced {
     Ended(End),
     Checked,
 }
 
 // A correction of storage: where three bytes stayed, and the pattern byte of each.
-#[derive(Drop)]
+#[derive(Clone, Copy)]
 pub struct Correction {
     pub stayed: ThreeStayed,
     pub pattern0: u8,

@@ -1,4 +1,6 @@
 // What recovery decides, by value; whether its restart is allowed; and the one function that writes: a decision carried out.
+#![tactic(auto)]
+
 ghost use Rattle.std.specs.Prelude.{◌≡◌, [], length};
 ghost use Rattle.recovered.specs.Applied.{with};
 ghost use Rattle.restart.specs.Restart.{overflow_program, restart_arguments_of};
@@ -12,14 +14,14 @@ use recovered::{Kind, Recovered};
 use restart::{LastTic, ReadCount};
 
 // How a restart comes to its record: by a search for its ID, with the read count behind it; or from the home address on.
-#[derive(Drop)]
+#[derive(Clone, Copy)]
 pub enum Orientation {
     Search(ReadCount),
     Home,
 }
 
 // A restart: which; its track, mask, sector, record number and read count; and the address of the chain's CCW that it goes on with.
-#[derive(Drop)]
+#[derive(Clone, Copy)]
 pub struct RestartPlan {
     pub to: usize,
     pub track: Address,
@@ -31,7 +33,7 @@ pub struct RestartPlan {
 }
 
 // A restart inside an overflow record: which; its track and mask; restart CCW 1; and the last TIC.
-#[derive(Drop)]
+#[derive(Clone, Copy)]
 pub struct OverflowPlan {
     pub track: Address,
     pub mask: FileMask,
@@ -42,7 +44,7 @@ pub struct OverflowPlan {
 
 // What is to be done: an answer and nothing written; an answer, and storage corrected; a restart, and storage corrected; a restart
 // inside an overflow record.
-#[derive(Drop)]
+#[derive(Clone, Copy)]
 pub enum Decision {
     Answers(Recovered),
     Corrects(Recovered, Correction),

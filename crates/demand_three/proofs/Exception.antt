@@ -19,7 +19,7 @@ use Rattle.channel.specs.declared.Fetched.TheVariants.{Got, Broken}
 use Rattle.channel.specs.Ccw.{resolve}
 use Rattle.channel.specs.Csw.{csw_at}
 use Rattle.drive.specs.declared.Command.{Command}
-use Rattle.drive.specs.declared.Command.TheVariants.{ReadMultitrack}
+use Rattle.drive.specs.declared.Command.TheVariants.{ReadMultitrack, NoOperation, ReadHome, ReadRecord, SearchId, SearchIdMultitrack, Seek, SetMask, SetSector, Unlisted}
 use Rattle.drive.specs.Drive.{Drive}
 use Rattle.drive.specs.Command.{command_of}
 use Rattle.drive.specs.Step as Step
@@ -64,6 +64,15 @@ module _ (w : Setting) (l : Location) (c : Ccw) (d : Drive) (st : List ℕ) wher
   perform_fails : (k : Check) → Step.take_from w.pack true d ≡ fails k → (x : Command) → ReadsOn x → Step.perform w l c d st x ≡ Step.refuse l c d st k
   unfolding Step.perform Step.plan_read_multitrack Step.on_reached
   perform_fails k q (ReadMultitrack x) reads_on = rw q
+  perform_fails k q NoOperation x'' = elim x'' [ ]
+  perform_fails k q Seek x3 = elim x3 [ ]
+  perform_fails k q SetMask x4 = elim x4 [ ]
+  perform_fails k q SetSector x5 = elim x5 [ ]
+  perform_fails k q SearchId x6 = elim x6 [ ]
+  perform_fails k q ReadHome x7 = elim x7 [ ]
+  perform_fails k q (ReadRecord _) x9 = elim x9 [ ]
+  perform_fails k q SearchIdMultitrack x9 = elim x9 [ ]
+  perform_fails k q Unlisted x10 = elim x10 [ ]
 
   -- if it makes no program check
   sense_is : (e : End) (k : Check) → Step.take_from w.pack true d ≡ fails k → ReadsOn (command_of c.command)

@@ -28,7 +28,7 @@ use Rattle.channel.proofs.InChain.{InChain, walk_same}
 use Rattle.channel.proofs.Walks.{Short, short_walked}
 use Rattle.drive.specs.declared.Read.{Read}
 use Rattle.drive.specs.declared.Command.{Command}
-use Rattle.drive.specs.declared.Command.TheVariants.{ReadRecord, ReadMultitrack}
+use Rattle.drive.specs.declared.Command.TheVariants.{ReadRecord, ReadMultitrack, NoOperation, ReadHome, SearchId, SearchIdMultitrack, Seek, SetMask, SetSector, Unlisted}
 use Rattle.drive.specs.declared.FileMask.{FileMask}
 use Rattle.drive.specs.Command.{command_of}
 use Rattle.drive.specs.Drive.{address_bytes}
@@ -99,6 +99,14 @@ reads_data_lem : (c : Command) (k : Read) → Origin.Reads c k → k.datas ≡ t
 unfolding reads_data
 reads_data_lem (ReadRecord j) k Origin.on_track h = h
 reads_data_lem (ReadMultitrack j) k Origin.multitrack h = h
+reads_data_lem NoOperation k x'' h = elim x'' [ ]
+reads_data_lem Seek k x3 h = elim x3 [ ]
+reads_data_lem SetMask k x4 h = elim x4 [ ]
+reads_data_lem SetSector k x5 h = elim x5 [ ]
+reads_data_lem SearchId k x6 h = elim x6 [ ]
+reads_data_lem ReadHome k x7 h = elim x7 [ ]
+reads_data_lem SearchIdMultitrack k x8 h = elim x8 [ ]
+reads_data_lem Unlisted k x9 h = elim x9 [ ]
 
 -- what follows the walk, by its tests
 module _ (g : Given) (r : Report) (st : List ℕ) (ps : List (Option ℕ)) (l : Location) (c : Ccw) (wrong : Bool) (calm : fetch_mode r.mask ≡ false) where

@@ -1,4 +1,6 @@
 // The trial drive.
+#![tactic(auto)]
+
 ghost use Rattle.std.specs.Prelude.{◌≡◌, ◌<◌};
 ghost use Rattle.channel.specs.Fetch.{InBytes};
 ghost use Rattle.drive.specs.Command.{command_of};
@@ -8,7 +10,7 @@ ghost use Rattle.drive.specs.Arguments.{Insides, Argues, Sounds, ArgumentIn, Arg
 use channel::{Ccw, Location};
 
 // What a read moves: the count area, the key, the data; and whether it takes the record whose count area was just passed.
-#[derive(Drop)]
+#[derive(Clone, Copy)]
 pub struct Read {
     pub just: bool,
     pub counts: bool,
@@ -16,7 +18,7 @@ pub struct Read {
     pub datas: bool,
 }
 
-#[derive(Drop)]
+#[derive(Clone, Copy)]
 pub enum Command {
     NoOperation,
     Seek,
@@ -31,7 +33,7 @@ pub enum Command {
 }
 
 // The file mask, if one was set.
-#[derive(Drop)]
+#[derive(Clone, Copy)]
 pub enum FileMask {
     Unset,
     Set(u8),

@@ -1,20 +1,22 @@
 // The error table: which recovery action three sense bytes ask for.
+#![tactic(auto)]
+
 ghost use Rattle.std.specs.Prelude.{[], ◌∷◌, ◌≡◌};
 ghost use Rattle.recovery.specs.Table;
 ghost use Rattle.error_table.specs.Table.{row_of, Matches, Chooses};
 
 // The bits of sense 0, 1 and 2 that a row asks for, and its action; 6A is 0x16.
-#[derive(Drop)]
+#[derive(Clone, Copy)]
 pub struct Row(pub u8, pub u8, pub u8, pub u8);
 
 // A row with its number, counted from 1.
-#[derive(Drop)]
+#[derive(Clone, Copy)]
 pub enum Matched {
     First(usize, Row),
     Nothing,
 }
 
-#[derive(Drop)]
+#[derive(Clone, Copy)]
 pub enum Chosen {
     Action(u8),
     NoRow,

@@ -1,4 +1,6 @@
 // One command of a run.
+#![tactic(auto)]
+
 ghost use Rattle.std.specs.Prelude.{◌≡◌};
 ghost use Rattle.address.specs.Model.{last_of};
 ghost use Rattle.drive.specs.Command.{command_of};

@@ -1,5 +1,7 @@
 // The program: reads a chain, a report and an extent from standard input, and prints on standard output what recovery makes of them. The
 // kit's contracts say nothing of what is read or written, so what is proved is the text that is handed to the writing.
+#![tactic(auto)]
+
 ghost use Rattle.std.specs.Prelude.{◌≡◌, take};
 ghost use Rattle.io.specs.Counts.{IsPrefixLen};
 ghost use Rattle.explain_session.specs.Session.{printed};

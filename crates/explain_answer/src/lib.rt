@@ -1,4 +1,6 @@
 // Lines of what recovery answers: the action in words, the correction, the restart program; or the refusal.
+#![tactic(auto)]
+
 ghost use Rattle.std.specs.Prelude.{◌≡◌, ◌+◌, ◌≤◌, length};
 ghost use Rattle.text.specs.Text.{Puts};
 ghost use Rattle.explain_answer.specs.Answer.{action_line, restart_index, csw_line, head_text, detail_text, restart_text, finished_text, answer_text};

@@ -1,4 +1,6 @@
 // Lines of CCWs: the place, the command, address, count and flags of each, and the restart arguments that it names.
+#![tactic(auto)]
+
 ghost use Rattle.std.specs.Prelude.{◌≡◌, ◌+◌, ◌*◌, ◌<◌, ◌≤◌, length};
 ghost use Rattle.text.specs.Text.{Puts};
 ghost use Rattle.explain_ccws.specs.Ccws.{head_text, operand_text, argument_text, ccw_line, slot_line, ccw_lines, used_in};

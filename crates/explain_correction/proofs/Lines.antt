@@ -61,7 +61,7 @@ module _ (n a b : ℕ) where
   spent x at e h = rw (ne_eqb b 0 e, eq-eqb n 0 h) (puts_none x at)
 
   pub change_put : {x y₁ y₂ y₃ y₄ y : List ℕ} {at r₁ r₂ r₃ r₄ r : ℕ} → (b ≡ 0 → ⊥) → (n ≡ 0 → ⊥)
-      → Puts x at (ascii "storage byte") y₁ r₁ → Puts y₁ r₁ (number 16 4 a) y₂ r₂ → Puts y₂ r₂ (ascii ": exclusive_or") y₃ r₃ → Puts y₃ r₃ (number 16 2 b) y₄ r₄
+      → Puts x at (ascii "storage byte") y₁ r₁ → Puts y₁ r₁ (number 16 4 a) y₂ r₂ → Puts y₂ r₂ (ascii ": exclusive-or") y₃ r₃ → Puts y₃ r₃ (number 16 2 b) y₄ r₄
       → Puts y₄ r₄ (ascii "\n") y r → Puts x at (change_text n a b) y r
   unfolding change_text pick
   change_put e h p q s t u = rw (ne_eqb b 0 e, ne_eqb n 0 h) (puts_then (puts_then (puts_then (puts_then p q) s) t) u)

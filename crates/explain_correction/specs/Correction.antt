@@ -21,7 +21,7 @@ left_after n b = pick (eqb b 0) n (n - 1)
 -- the line of the byte b at the address a, if it changed and n is not 0
 unfoldable pub change_text : ℕ → ℕ → ℕ → List ℕ
 change_text n a b =
-    pick (eqb b 0 || eqb n 0) [] (ascii "storage byte" ++ number 16 4 a ++ ascii ": exclusive_or" ++ number 16 2 b ++ ascii "\n")
+    pick (eqb b 0 || eqb n 0) [] (ascii "storage byte" ++ number 16 4 a ++ ascii ": exclusive-or" ++ number 16 2 b ++ ascii "\n")
 
 -- the lines of the first n that changed, the first byte having address a
 unfoldable pub changes_from : ℕ → ℕ → List ℕ → List ℕ

@@ -1,4 +1,6 @@
 // Lines of a correction: the two displacements, and the storage bytes that changed.
+#![tactic(auto)]
+
 ghost use Rattle.std.specs.Prelude.{◌≡◌, ◌+◌, ◌*◌, ◌≤◌, length};
 ghost use Rattle.text.specs.Text.{Puts};
 ghost use Rattle.explain_correction.specs.Correction.{restart_line, error_line, left_after, change_text, change_lines, correction_text};

@@ -1,4 +1,6 @@
 // The parts of the input of the program `explain`.
+#![tactic(auto)]
+
 ghost use Rattle.std.specs.Prelude.{◌≡◌, ◌≤◌, length};
 ghost use Rattle.explain_input.specs.Input.{parts_of};
 ghost use Rattle.explain_input.specs.Found.{end_of, EndWithin, found_in, Inside};
@@ -6,7 +8,7 @@ ghost use Rattle.explain_input.specs.Found.{end_of, EndWithin, found_in, Inside}
 use fields::{Tagged, Wanted};
 
 // Where the parts stand: the chain up to the report, the report up to the extent's field, the extent up to the end.
-#[derive(Drop)]
+#[derive(Clone, Copy)]
 pub struct Places {
     pub chain: usize,
     pub report: usize,
@@ -14,14 +16,14 @@ pub struct Places {
     pub extent: usize,
 }
 
-#[derive(Drop)]
+#[derive(Clone, Copy)]
 pub enum Found {
     At(Places),
     Bad,
 }
 
 // The extent's field: its own place, that of its contents, and the place behind it.
-#[derive(Drop)]
+#[derive(Clone, Copy)]
 enum Last {
     Field {
         at: usize,

@@ -1,4 +1,6 @@
 // Commands, flags, sense bits, the actions of the error table and the questions, in words.
+#![tactic(auto)]
+
 ghost use Rattle.std.specs.Prelude.{◌≡◌, ◌+◌, ◌<◌, ◌≤◌, length};
 ghost use Rattle.text.specs.Text.{Puts};
 ghost use Rattle.explain_names.specs.Names.{read_index, command_index, ccw_index, command_name, flag_text, flags_text, sense_name, action_name, refusal_line};

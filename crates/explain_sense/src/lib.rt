@@ -1,4 +1,6 @@
 // Lines of a report's sense: its bits that are on by their names, and the row of the error table that they match.
+#![tactic(auto)]
+
 ghost use Rattle.std.specs.Prelude.{◌≡◌, ◌+◌, ◌<◌, ◌≤◌, length};
 ghost use Rattle.text.specs.Text.{Puts};
 ghost use Rattle.error_table.specs.Table.{row_of};

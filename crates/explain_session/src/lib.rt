@@ -1,4 +1,6 @@
 // The work of the program `explain` between its input and its output: the parts are found, recovery is asked, the lines are put.
+#![tactic(auto)]
+
 ghost use Rattle.std.specs.Prelude.{◌≡◌, ◌+◌, ◌≤◌, length};
 ghost use Rattle.text.specs.Text.{Puts};
 ghost use Rattle.explain_input.specs.Found.{parts_in, Ordered};

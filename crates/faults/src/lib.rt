@@ -1,4 +1,6 @@
 // The fault list: which record has which fault, and question 3.
+#![tactic(auto)]
+
 ghost use Rattle.std.specs.Prelude.{◌≡◌, ◌≤◌, length};
 ghost use Rattle.faults.specs.Faults.{faults_answer};
 ghost use Rattle.faults.specs.FaultAt.{fault_in, fault_at, named, FaultFound, NamedFrom, FaultSound, FaultsSound};
@@ -10,7 +12,7 @@ use pack::{RecordAt, TrackAt};
 use questions::{Checked, Question};
 
 // A fault as it was read, with the place behind its field. The displacement counts back from the end of the data area.
-#[derive(Drop)]
+#[derive(Clone, Copy)]
 pub struct Listed {
     pub at: Address,
     pub r: usize,
@@ -21,7 +23,7 @@ pub struct Listed {
     pub next: usize,
 }
 
-#[derive(Drop)]
+#[derive(Clone, Copy)]
 pub enum FaultAt {
     Found(Listed),
     NoFault,

@@ -1,9 +1,11 @@
 // Tagged fields: a tag byte, a two-byte length, and that many bytes of contents. No knowledge of disks.
+#![tactic(auto)]
+
 ghost use Rattle.std.specs.Prelude.{◌≡◌};
 ghost use Rattle.fields.specs.TaggedAt.{tagged_at, wanted_at};
 
 // What stands at a place: a whole field, whose contents lie from `start` up to `next`, or none, at the end too.
-#[derive(Drop)]
+#[derive(Clone, Copy)]
 pub enum Tagged {
     Field { tag: u8, start: usize, next: usize },
     Torn,
@@ -31,7 +33,7 @@ pub fn field_at(s: &[u8], at: usize) -> Tagged
 }
 
 // Whether a field of one tag stands at a place. Found: its contents lie from `start` up to `next`. Missing: another tag, or no whole field.
-#[derive(Drop)]
+#[derive(Clone, Copy)]
 pub enum Wanted {
     Found { start: usize, next: usize },
     Missing,

@@ -1,5 +1,7 @@
 // The calls for C and Rust: plain bytes and numbers in, document 01's numbers out. Each stands for a proved call and adds no rule. Those that meet
 // a track address take the pack's model, 1 or 11; another number is refused by 1, with nothing changed.
+#![tactic(auto)]
+
 ghost use Rattle.std.specs.Prelude.{◌≡◌, length};
 ghost use Rattle.questions.specs.Number.{answer_of};
 ghost use Rattle.trial.specs.Trial.{TrialLow};

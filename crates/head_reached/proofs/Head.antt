@@ -28,7 +28,7 @@ use Rattle.channel.specs.Ccw.{chains_data, address_of, fetch_in, fetch, is_tic}
 use Rattle.channel.specs.Csw.{csw_at}
 use Rattle.channel.proofs.Walks.{resolve_got}
 use Rattle.drive.specs.declared.Command.{Command}
-use Rattle.drive.specs.declared.Command.TheVariants.{SearchIdMultitrack, ReadMultitrack}
+use Rattle.drive.specs.declared.Command.TheVariants.{SearchIdMultitrack, ReadMultitrack, NoOperation, ReadHome, ReadRecord, SearchId, Seek, SetMask, SetSector, Unlisted}
 use Rattle.drive.specs.Command.{command_of}
 use Rattle.drive.specs.Drive.{Drive, at_index}
 use Rattle.drive.specs.Step as Step
@@ -47,11 +47,27 @@ module _ (pack : List Track) (d : Drive) (head : ℕ) where
   first_of : (k : Command) → MeetsMask pack d head k → (head ≡ d.at.head) × (head < 18)
   first_of SearchIdMultitrack (by_search q) = let h = rw q at (search_first pack d) in (h.1, h.2)
   first_of (ReadMultitrack k) (by_read _ q) = let h = rw q at (take_first pack k.just d) in (h.1, h.2)
+  first_of NoOperation x' = elim x' [ ]
+  first_of Seek x'' = elim x'' [ ]
+  first_of SetMask x3 = elim x3 [ ]
+  first_of SetSector x4 = elim x4 [ ]
+  first_of SearchId x5 = elim x5 [ ]
+  first_of ReadHome x6 = elim x6 [ ]
+  first_of (ReadRecord _) x8 = elim x8 [ ]
+  first_of Unlisted x8 = elim x8 [ ]
 
   no_seek : (k : Command) → MeetsMask pack d head k → is_seek k ≡ false
   unfolding is_seek
   no_seek SearchIdMultitrack (by_search q) = refl
   no_seek (ReadMultitrack k) (by_read _ q) = refl
+  no_seek NoOperation x' = elim x' [ ]
+  no_seek Seek x'' = elim x'' [ ]
+  no_seek SetMask x3 = elim x3 [ ]
+  no_seek SetSector x4 = elim x4 [ ]
+  no_seek SearchId x5 = elim x5 [ ]
+  no_seek ReadHome x6 = elim x6 [ ]
+  no_seek (ReadRecord _) x8 = elim x8 [ ]
+  no_seek Unlisted x8 = elim x8 [ ]
 
 -- ---- its end
 
@@ -76,6 +92,14 @@ module _ (w : Setting) (l : Location) (c : Ccw) (d : Drive) (st : List ℕ) (e :
       (λ ok. refused (rw (ok, q) at is))
       (λ bad. no_other (refused_at rejected l c d st) (rw bad at is) (λ z. omega (arith, z)))
   performed fs (ReadMultitrack k) (by_read _ q) is = refused (rw q at is)
+  performed fs NoOperation x'' is = elim x'' [ ]
+  performed fs Seek x3 is = elim x3 [ ]
+  performed fs SetMask x4 is = elim x4 [ ]
+  performed fs SetSector x5 is = elim x5 [ ]
+  performed fs SearchId x6 is = elim x6 [ ]
+  performed fs ReadHome x7 is = elim x7 [ ]
+  performed fs (ReadRecord _) x9 is = elim x9 [ ]
+  performed fs Unlisted x9 is = elim x9 [ ]
 
   ended_by : (fs : List Fault) → MeetsMask w.pack d head (command_of c.command) → Step.carry fs st (Step.execute w l c d st) ≡ ends e
       → e ≡ refused_at (protected_step head) l c d st

@@ -1,5 +1,7 @@
 // Where a multitrack command reaches: the drive as it stands, or at the index of a head behind it. A step to the next head looks at
 // one field of the image, the home address behind the last record of the track.
+#![tactic(auto)]
+
 ghost use Rattle.std.specs.Prelude.{◌≡◌, ◌<◌};
 ghost use Rattle.pack.specs.Pack.{pack_of};
 ghost use Rattle.drive.specs.Step as Step;
@@ -14,7 +16,7 @@ use position::Drive;
 
 // What is searched or read is reached with a drive, or a unit check ends the command on the way there. Of a protected step the drive before it is
 // told. The checks hold this or nothing, so that the compiler keeps each of the drive's numbers in one piece.
-#[derive(Drop)]
+#[derive(Clone, Copy)]
 pub enum Reached {
     Reaches(Drive),
     NotFound,

@@ -1,4 +1,6 @@
 // Question 2: the image check, in one pass over the image and with nothing copied.
+#![tactic(auto)]
+
 ghost use Rattle.std.specs.Prelude.{◌≡◌, ◌<◌, ◌≤◌, length};
 ghost use Rattle.address.specs.Model.{last_of};
 ghost use Rattle.image.specs.Image.{follows, well_formed, image_answer};
@@ -9,7 +11,7 @@ use pack::{HomeAt, Place, RecordAt};
 use questions::{Checked, Question};
 
 // The track before the one that is looked at, if there is one.
-#[derive(Drop)]
+#[derive(Clone, Copy)]
 pub enum Previous {
     Nothing,
     Behind(Address),
@@ -37,7 +39,7 @@ fn fits(p: Place, a: Address) -> bool
 }
 
 // Where the records of a track end, or that one of them is unsound.
-#[derive(Drop)]
+#[derive(Clone, Copy)]
 pub enum RecordsEnd {
     Upto(usize),
     Unsound,
@@ -69,7 +71,7 @@ fn records_end(image: &[u8], at: usize, a: Address) -> RecordsEnd
 }
 
 // A track's address and where it ends, or that it is unsound.
-#[derive(Drop)]
+#[derive(Clone, Copy)]
 pub enum TrackEnd {
     Track { at: Address, next: usize },
     Faulty,

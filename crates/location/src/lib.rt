@@ -1,4 +1,6 @@
 // The place of a CCW: its address, the place behind it, and the CSW that shows it.
+#![tactic(auto)]
+
 ghost use Rattle.std.specs.Prelude.{◌≡◌, ◌++◌, ◌<◌, ◌≤◌, length, drop};
 ghost use Rattle.channel.specs.Ccw.{address_of, next};
 ghost use Rattle.channel.specs.Csw.{csw_at, csw_bytes};

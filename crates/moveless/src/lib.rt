@@ -1,4 +1,6 @@
 // Search ID equal, and whichever command moves no byte of storage.
+#![tactic(auto)]
+
 ghost use Rattle.std.specs.Prelude.{◌≡◌, true};
 ghost use Rattle.address.specs.Model.{last_of};
 ghost use Rattle.channel.specs.Fetch.{InBytes};

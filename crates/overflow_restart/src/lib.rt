@@ -1,4 +1,6 @@
 // The restart inside an overflow record: restart CCW 1 for the rest of the CCW that was interrupted, and the last TIC.
+#![tactic(auto)]
+
 ghost use Rattle.std.specs.Prelude.{◌≡◌, true, ◌||◌, ◌-◌, ◌≤◌, length};
 ghost use Rattle.base.specs.Choice.{pick};
 ghost use Rattle.channel.specs.Ccw.{chains_data, chains_command, skips};
@@ -17,7 +19,7 @@ use recovered::{Kind, Recovered};
 use restart::LastTic;
 
 // Where a data chain ended: its last CCW, and the count left there.
-#[derive(Drop)]
+#[derive(Clone, Copy)]
 pub struct WalkEnd {
     pub at: Location,
     pub ccw: Ccw,

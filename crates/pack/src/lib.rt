@@ -1,4 +1,6 @@
 // Home addresses, records and tracks by their places in an image. An image is not copied: a place is an offset in it.
+#![tactic(auto)]
+
 ghost use Rattle.std.specs.Prelude.{◌≡◌, ◌≤◌, length};
 ghost use Rattle.pack.specs.Places.{home_in, home_at, is_track, place_in, record_at, Bounded, TrackFound, RecordFound};
 
@@ -6,7 +8,7 @@ use address::Address;
 use fields::Tagged;
 
 // What stands at a place: a home address, with the place behind its field, or none.
-#[derive(Drop)]
+#[derive(Clone, Copy)]
 pub enum HomeAt {
     Home { at: Address, next: usize },
     NoHome,
@@ -61,7 +63,7 @@ fn is_track(image: &[u8], tag: u8, start: usize, next: usize, a: Address) -> boo
 }
 
 // Where the records of a track begin.
-#[derive(Drop)]
+#[derive(Clone, Copy)]
 pub enum TrackAt {
     Records(usize),
     NoTrack,
@@ -84,7 +86,7 @@ pub fn find_track(image: &[u8], a: Address) -> TrackAt
 }
 
 // A record by its places: the key lies from `key` up to `body`, the data from `body` up to `next`.
-#[derive(Drop)]
+#[derive(Clone, Copy)]
 pub struct Place {
     pub at: Address,
     pub r: usize,
@@ -94,7 +96,7 @@ pub struct Place {
 }
 
 // What stands at a place: a record, or none.
-#[derive(Drop)]
+#[derive(Clone, Copy)]
 pub enum RecordAt {
     Located(Place),
     NoRecord,

@@ -24,7 +24,7 @@ use Rattle.pack.specs.declared.RecordAt.TheVariants.{Located, NoRecord}
 use Rattle.pack.specs.Pack.{Record, Track, Decoded, led_by_record}
 use Rattle.pack.specs.Places.{record_at, record_from, Within, Bounded}
 use Rattle.pack.proofs.Decode.{record_bounds}
-use Rattle.pack.proofs.Lookup.{next_record, no_record}
+use Rattle.pack.proofs.Lookup.{next_record, no_record as no_record_lem}
 use Rattle.drive.specs.Drive.{turn, past_zero, no_record}
 use Rattle.position.specs.declared.Drive.{Drive}
 use Rattle.position.specs.declared.Spot.{Spot}
@@ -78,7 +78,7 @@ module _ (image : List ℕ) (t : Track) (place start : ℕ) (s : StandsAt image 
       }
 
   pub ended : record_at image start ≡ NoRecord → length t.records ≤ place
-  ended h = drop_none t.records place (sym s.2 ∙ no_record image start s.0 s.1 h)
+  ended h = drop_none t.records place (sym s.2 ∙ no_record_lem image start s.0 s.1 h)
 
 -- ---- behind it
 

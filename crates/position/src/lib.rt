@@ -1,5 +1,7 @@
 // The drive's state: where it stands on a track, and where that is in the image. A seek walks the image once; searches and
 // reads go on from where the drive stands.
+#![tactic(auto)]
+
 ghost use Rattle.std.specs.Prelude.{◌≡◌, true, false, ◌&&◌, [], ◌∷◌, ◌<◌, ◌≤◌};
 ghost use Rattle.pack.specs.declared.RecordAt.TheVariants.{NoRecord};
 ghost use Rattle.pack.specs.Places.{record_at, TrackFound};
@@ -14,7 +16,7 @@ use pack::{Place, RecordAt, TrackAt};
 
 // `found` says whether the image has the track. Then its records begin at `records`, the count area that comes next has place
 // `next` on the track and stands at `here`, and the one that was just passed stands at `behind`.
-#[derive(Drop)]
+#[derive(Clone, Copy)]
 pub struct Drive {
     pub at: Address,
     pub records: usize,
@@ -28,7 +30,7 @@ pub struct Drive {
 }
 
 // What a search comes to: the drive behind an equal or an unequal count area, or no record found.
-#[derive(Drop)]
+#[derive(Clone, Copy)]
 pub enum Examined {
     Equal(Drive),
     Unequal(Drive),
@@ -36,14 +38,14 @@ pub enum Examined {
 }
 
 // What a read comes to: the record's place and the drive behind it, or no record found.
-#[derive(Drop)]
+#[derive(Clone, Copy)]
 pub enum Taken {
     Takes(Place, Drive),
     Nothing,
 }
 
 // A record of the drive's track: its place on the track, where its field starts in the image, and where its parts lie.
-#[derive(Drop)]
+#[derive(Clone, Copy)]
 struct Spot {
     place: usize,
     start: usize,
@@ -51,14 +53,14 @@ struct Spot {
 }
 
 // What is looked for on the track: a record, or none.
-#[derive(Drop)]
+#[derive(Clone, Copy)]
 enum Sighted {
     Seen(Spot),
     Unseen,
 }
 
 // What comes next to a search: a count area, with the index passes up to it, or the index for the second time.
-#[derive(Drop)]
+#[derive(Clone, Copy)]
 enum Coming {
     Area(Spot, usize),
     Round,

@@ -1,10 +1,12 @@
 // The questions that a call asks in number order, and question 1: the sizes of the lent areas and the command limit.
+#![tactic(auto)]
+
 ghost use Rattle.std.specs.Prelude.{◌≡◌};
 ghost use Rattle.questions.specs.Areas;
 ghost use Rattle.questions.specs.Number.{number_of, answer_of};
 
 // What a refusal names: the first question whose answer is no.
-#[derive(Drop)]
+#[derive(Clone, Copy)]
 pub enum Question {
     Areas,
     Image,
@@ -26,7 +28,7 @@ pub const LIMIT: u8 = 64;
 pub const STOPPED: u8 = 65;
 
 // What a check answers.
-#[derive(Drop)]
+#[derive(Clone, Copy)]
 pub enum Checked {
     Accepted,
     Refused(Question),

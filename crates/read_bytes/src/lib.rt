@@ -1,4 +1,6 @@
 // The bytes of a read, by their places in the image, and as they arrive from a faulted data area.
+#![tactic(auto)]
+
 ghost use Rattle.std.specs.Prelude.{◌≡◌, [], ◌∷◌, ◌≤◌, length};
 ghost use Rattle.read_bytes.specs.Bytes.{AreBytes, from, to};
 ghost use Rattle.read_bytes.specs.Pattern.{Arrives};

@@ -1,4 +1,6 @@
 // Read commands: the bytes of a record or of a home address, on their way through the data chain.
+#![tactic(auto)]
+
 ghost use Rattle.std.specs.Prelude.{◌≡◌, ◌&&◌, ◌≤◌, eqb, length, take};
 ghost use Rattle.faults.specs.FaultAt.{fault_from};
 ghost use Rattle.pack.specs.Places.{record_from};

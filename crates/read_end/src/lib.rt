@@ -1,4 +1,6 @@
 // What a read comes to where its data chain ended.
+#![tactic(auto)]
+
 ghost use Rattle.std.specs.Prelude.{◌≡◌};
 ghost use Rattle.drive.specs.Step.{length_status};
 ghost use Rattle.position.specs.Standing.{drive_of};

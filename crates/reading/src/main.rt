@@ -1,5 +1,7 @@
 // The program: reads standard input to its end, does the reading, and prints its lines on standard output. The kit's contracts say
 // nothing of what is read or written, so what is proved is the text that is handed to the writing.
+#![tactic(auto)]
+
 ghost use Rattle.std.specs.Prelude.{◌≡◌, take};
 ghost use Rattle.io.specs.Counts.{IsPrefixLen};
 ghost use Rattle.reading_session.specs.Session.{printed};

@@ -1,4 +1,6 @@
 // A reading's answer as a number and bytes.
+#![tactic(auto)]
+
 ghost use Rattle.std.specs.Prelude.{◌≡◌, length};
 ghost use Rattle.reading_runs.specs.Conclusion.{OverLow, OutcomeLow};
 ghost use Rattle.reading_answer.specs.ReadingAnswer.{how_number, stop_number, over_bytes, reading_return, reading_answer_after};

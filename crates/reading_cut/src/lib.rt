@@ -1,4 +1,6 @@
 // A cut in a reading: what its report tells, its recovery, and its place in the list.
+#![tactic(auto)]
+
 ghost use Rattle.std.specs.Prelude.{◌≡◌, ◌∷◌, ◌++◌, [], ◌≤◌, length, drop};
 ghost use Rattle.report.specs.Told.{ToldLow};
 ghost use Rattle.recovered.specs.Applied.{with};
@@ -13,7 +15,7 @@ use recovered::Recovered;
 use report::{Sense, Told, User};
 
 // What comes of a cut: a restart, built and yet to be run; an end with this CSW; a stop by this number.
-#[derive(Drop)]
+#[derive(Clone, Copy)]
 pub enum Went {
     Again,
     Closed(Csw),

@@ -1,4 +1,6 @@
 // The parts of the program's input.
+#![tactic(auto)]
+
 ghost use Rattle.std.specs.Prelude.{◌≡◌, ◌≤◌, length};
 ghost use Rattle.reading_input.specs.Input.{image_at, parts_of};
 ghost use Rattle.reading_input.specs.Found.{found_in, Inside};
@@ -7,7 +9,7 @@ use fields::{Tagged, Wanted};
 
 // Where the parts stand: chain, arguments and extent each from its own place up to the field behind it, the faults up to the
 // image, the image up to the end.
-#[derive(Drop)]
+#[derive(Clone, Copy)]
 pub struct Places {
     pub chain: usize,
     pub second: usize,
@@ -18,7 +20,7 @@ pub struct Places {
     pub image: usize,
 }
 
-#[derive(Drop)]
+#[derive(Clone, Copy)]
 pub enum Found {
     At(Places),
     Bad,

@@ -1,4 +1,6 @@
 // The lines that the program prints for an answer.
+#![tactic(auto)]
+
 ghost use Rattle.std.specs.Prelude.{◌≡◌, ◌+◌, ◌*◌, ◌≤◌, length, drop};
 ghost use Rattle.text.specs.Text.{Puts};
 ghost use Rattle.reading_runs.specs.Conclusion.{MadeWithin};

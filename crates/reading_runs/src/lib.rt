@@ -1,4 +1,6 @@
 // All runs of a reading: run, recover, run on.
+#![tactic(auto)]
+
 ghost use Rattle.std.specs.Prelude.{◌*◌, ◌≤◌, length};
 ghost use Rattle.read_command.specs.Reads.{Begun};
 ghost use Rattle.trial.specs.Run.{RanLow};
@@ -13,7 +15,7 @@ use reading_cut::Went;
 use trial::Ran;
 
 // How a reading ends; "stopped" has its number.
-#[derive(Drop)]
+#[derive(Clone, Copy)]
 pub enum How {
     Ended,
     Limited,
@@ -21,14 +23,14 @@ pub enum How {
 }
 
 // What a reading ends with: the CSW, the number of recoveries made, and how.
-#[derive(Drop)]
+#[derive(Clone, Copy)]
 pub struct Over {
     pub csw: Csw,
     pub made: usize,
     pub how: How,
 }
 
-#[derive(Drop)]
+#[derive(Clone, Copy)]
 pub enum Outcome {
     Refused(Question),
     Over(Over),

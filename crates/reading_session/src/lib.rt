@@ -1,4 +1,6 @@
 // The program's work between its input and its output: the parts are found, the reading is done, the lines are put.
+#![tactic(auto)]
+
 ghost use Rattle.std.specs.Prelude.{◌≡◌, ◌≤◌, length};
 ghost use Rattle.text.specs.Text.{Puts};
 ghost use Rattle.reading_lines.specs.Lines.{room};

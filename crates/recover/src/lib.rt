@@ -1,4 +1,6 @@
 // Recovery from one report.
+#![tactic(auto)]
+
 ghost use Rattle.std.specs.Prelude.{◌≡◌, ◌≤◌, length};
 ghost use Rattle.error_table.specs.Table.{Chooses};
 ghost use Rattle.report.specs.Told.{ToldLow};

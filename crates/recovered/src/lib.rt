@@ -1,4 +1,6 @@
 // What recovery answers, and the tests that it decides by.
+#![tactic(auto)]
+
 ghost use Rattle.std.specs.Prelude.{◌≡◌, true};
 ghost use Rattle.location.specs.Low.{Low};
 ghost use Rattle.recovery.specs.Recovery as Recovery;
@@ -13,7 +15,7 @@ use questions::Question;
 use report::Sense;
 
 // Which restart was built.
-#[derive(Drop)]
+#[derive(Clone, Copy)]
 pub enum Kind {
     Five,
     FiveA,
@@ -26,7 +28,7 @@ pub enum Kind {
 
 // What recovery answers: a refusal; action 1 or 2; the chain is to be run again; storage was corrected and no more; it was
 // corrected and the chain ended with this CSW; a restart was built.
-#[derive(Drop)]
+#[derive(Clone, Copy)]
 pub enum Recovered {
     Refused(Question),
     ActionOne,

@@ -1,4 +1,6 @@
 // Recovery's answer as a number and bytes.
+#![tactic(auto)]
+
 ghost use Rattle.std.specs.Prelude.{◌≡◌, length};
 ghost use Rattle.location.specs.Low.{CswLow};
 ghost use Rattle.recovered.specs.Applied.{RecoveredLow};

@@ -1,4 +1,6 @@
 // The report of a unit check: its tagged fields, question 4, and what it tells recovery.
+#![tactic(auto)]
+
 ghost use Rattle.std.specs.Prelude.{◌≡◌, ◌+◌, ◌%◌, ◌<◌, ◌≤◌, length};
 ghost use Rattle.base.specs.Bytes.{part};
 ghost use Rattle.address.specs.Model.{last_of};
@@ -16,7 +18,7 @@ use fields::Wanted;
 use questions::Question;
 
 // The place of the user's seek argument, six bytes.
-#[derive(Drop)]
+#[derive(Clone, Copy)]
 pub enum Seek {
     At(usize),
     Absent,
@@ -24,7 +26,7 @@ pub enum Seek {
 
 // What a report says besides its sense bytes, which stand at 3 to 26: the CSW, the address of the read's first CCW, the file
 // mask, the user's seek argument, and the tries made.
-#[derive(Drop)]
+#[derive(Clone, Copy)]
 pub struct Report {
     pub csw: Csw,
     pub first: usize,
@@ -34,7 +36,7 @@ pub struct Report {
 }
 
 // A report, or the refusal by question 4.
-#[derive(Drop)]
+#[derive(Clone, Copy)]
 pub enum Reported {
     Well(Report),
     Refused(Question),
@@ -173,7 +175,7 @@ pub fn read(report: &[u8]) -> Reported
 // What recovery reads in the 24 sense bytes: bytes 0 to 2, by which the error table chooses; the head reached in byte 6; byte 7, format
 // and message; the track in 8 to 11, the record's number in 12, its sector in 13; restart displacement, error displacement and pattern
 // from 15 on.
-#[derive(Drop)]
+#[derive(Clone, Copy)]
 pub struct Sense {
     pub track: Address,
     pub restart: FromFront,
@@ -192,14 +194,14 @@ pub struct Sense {
 }
 
 // The track of the user's seek argument, if the report has one that names a track on the pack.
-#[derive(Drop)]
+#[derive(Clone, Copy)]
 pub enum User {
     Track(Address),
     Missing,
 }
 
 // What a report tells recovery, by value.
-#[derive(Drop)]
+#[derive(Clone, Copy)]
 pub struct Told {
     pub csw: Csw,
     pub first: usize,

@@ -256,6 +256,8 @@ module _ (w : Setting) (l : Location) (c : Ccw) (st : List ℕ) where
     unfolding Step.on_reached Step.refusal Step.refuse
     reached_alike (reaches d) (reaches e) (places b n i p q) f same = same b n i p q
     reached_alike (fails x) (fails y) (checks k) f same = refl
+    reached_alike (reaches d) (fails y) x4 f same = elim x4 [ ]
+    reached_alike (fails x) (reaches e) x5 f same = elim x5 [ ]
 
     read_alike : Alike (Step.read_from w.pack 19 (placed a m j true)) (Step.read_from w.pack 19 (placed a m j false))
     read_alike = by (ahead_of w.pack m 19 a j)
@@ -286,6 +288,9 @@ module _ (w : Setting) (l : Location) (c : Ccw) (st : List ℕ) where
     perform_five SearchIdMultitrack on_search_multitrack = search_multitrack_same
     perform_five (ReadMultitrack k) on_read_multitrack = read_multitrack_same k.counts k.keys k.datas
     perform_five Unlisted on_unlisted = refl
+    perform_five NoOperation x' = elim x' [ ]
+    perform_five Seek x'' = elim x'' [ ]
+    perform_five SetSector x3 = elim x3 [ ]
 
     pub execute_five : bit_on 3 c.command ≡ true → execute w l c (placed a m j true) st ≡ execute w l c (placed a m j false) st
     unfolding Step.execute Step.program_check
@@ -299,6 +304,11 @@ module _ (w : Setting) (l : Location) (c : Ccw) (st : List ℕ) where
     perform_five_a t there SetSector off_sector = refl
     perform_five_a t there (ReadRecord k) off_read = read_passed a m j t there k refl
     perform_five_a t there Unlisted off_unlisted = refl
+    perform_five_a t there SetMask x' = elim x' [ ]
+    perform_five_a t there SearchId x'' = elim x'' [ ]
+    perform_five_a t there ReadHome x3 = elim x3 [ ]
+    perform_five_a t there SearchIdMultitrack x4 = elim x4 [ ]
+    perform_five_a t there (ReadMultitrack _) x6 = elim x6 [ ]
 
     pub execute_five_a : (t : Track) → track_in w.pack a ≡ some t → bit_on 3 c.command ≡ false → is_multitrack_data c.command ≡ false
         → execute w l c (placed a m (ahead t j + 1) true) st ≡ execute w l c (placed a m j false) st
@@ -309,6 +319,15 @@ module _ (w : Setting) (l : Location) (c : Ccw) (st : List ℕ) where
         → perform w l c (placed f.at m (ahead f.track f.place + 1) true) st k ≡ perform w l c (placed a m j false) st k
     unfolding pick Step.on_reached Step.take_from Step.plan_read_multitrack Step.perform
     perform_reads_on f (ReadMultitrack k) reads_on = rw f.behind_record (read_passed f.at m f.place f.track f.there k refl)
+    perform_reads_on f NoOperation x' = elim x' [ ]
+    perform_reads_on f Seek x'' = elim x'' [ ]
+    perform_reads_on f SetMask x3 = elim x3 [ ]
+    perform_reads_on f SetSector x4 = elim x4 [ ]
+    perform_reads_on f SearchId x5 = elim x5 [ ]
+    perform_reads_on f ReadHome x6 = elim x6 [ ]
+    perform_reads_on f (ReadRecord _) x8 = elim x8 [ ]
+    perform_reads_on f SearchIdMultitrack x8 = elim x8 [ ]
+    perform_reads_on f Unlisted x9 = elim x9 [ ]
 
     pub execute_five_a_multitrack : (f : Found w.pack m 19 a j) → is_multitrack_data c.command ≡ true
         → execute w l c (placed f.at m (ahead f.track f.place + 1) true) st ≡ execute w l c (placed a m j false) st
@@ -319,6 +338,15 @@ module _ (w : Setting) (l : Location) (c : Ccw) (st : List ℕ) where
         → perform w l c (placed a m j false) st k ≡ Step.refuse l c (placed a m j false) st x
     unfolding pick Step.on_reached Step.take_from Step.plan_read_multitrack Step.perform
     perform_failed x from (ReadMultitrack k) reads_on = rw from
+    perform_failed x from NoOperation x'' = elim x'' [ ]
+    perform_failed x from Seek x3 = elim x3 [ ]
+    perform_failed x from SetMask x4 = elim x4 [ ]
+    perform_failed x from SetSector x5 = elim x5 [ ]
+    perform_failed x from SearchId x6 = elim x6 [ ]
+    perform_failed x from ReadHome x7 = elim x7 [ ]
+    perform_failed x from (ReadRecord _) x9 = elim x9 [ ]
+    perform_failed x from SearchIdMultitrack x9 = elim x9 [ ]
+    perform_failed x from Unlisted x10 = elim x10 [ ]
 
     -- if it makes no program check
     pub execute_failed : (x : Step.Check) → Step.read_from w.pack 19 (placed a m j false) ≡ fails x → is_multitrack_data c.command ≡ true

@@ -1,4 +1,6 @@
 // The restart areas, byte by byte: a restart program of 64 bytes, and its arguments, 16 bytes. Unused bytes are 0.
+#![tactic(auto)]
+
 ghost use Rattle.std.specs.Prelude.{[], ◌≡◌, ◌+◌, ◌<◌, ◌≤◌, length, replicate};
 ghost use Rattle.channel.specs.Fetch.{InBytes};
 ghost use Rattle.drive.specs.Drive.{address_bytes};

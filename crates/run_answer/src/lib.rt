@@ -1,4 +1,6 @@
 // A run's answer as bytes.
+#![tactic(auto)]
+
 ghost use Rattle.std.specs.Prelude.{◌≡◌, [], ◌++◌, ◌<◌, ◌≤◌, length, drop};
 ghost use Rattle.base.specs.Bytes.{two};
 ghost use Rattle.channel.specs.Ccw.{address_of};

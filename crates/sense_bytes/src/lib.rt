@@ -1,4 +1,6 @@
 // The 24 sense bytes, at the front of what is lent.
+#![tactic(auto)]
+
 ghost use Rattle.std.specs.Prelude.{◌≡◌, [], ◌∷◌, ◌++◌, ◌≤◌, length, drop, replicate};
 ghost use Rattle.base.specs.Choice.{pick};
 ghost use Rattle.drive.specs.Step as Step;

@@ -1,10 +1,12 @@
 // Standard input into a lent area.
+#![tactic(auto)]
+
 ghost use Rattle.standard_input.specs.Received.{Within};
 
 use libc::STDIN_FILENO;
 
 // What standard input held: so many bytes at the front of an area, or nothing known, as a read failed.
-#[derive(Drop)]
+#[derive(Clone, Copy)]
 pub enum Received {
     Bytes(usize),
     Failed,

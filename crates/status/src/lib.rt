@@ -1,4 +1,6 @@
 // What both programs print alike: a CSW in hexadecimal, and a refusal by its number.
+#![tactic(auto)]
+
 ghost use Rattle.std.specs.Prelude.{◌≡◌, ◌+◌, ◌≤◌, length};
 ghost use Rattle.text.specs.Text.{Puts};
 ghost use Rattle.status.specs.Status.{csw_text, refused_text};

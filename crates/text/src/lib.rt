@@ -1,4 +1,6 @@
 // Text into a lent area: bytes at a place, and numbers in digits. No knowledge of disks.
+#![tactic(auto)]
+
 ghost use Rattle.std.specs.Prelude.{◌≡◌, ◌+◌, ◌*◌, ◌<◌, ◌≤◌, length};
 ghost use Rattle.text.specs.Text.{Puts, digits, number, bytes_text};
 ghost use Rattle.text.specs.Text as Text;

@@ -1,4 +1,6 @@
 // The bytes of a read, through its data chain into storage.
+#![tactic(auto)]
+
 ghost use Rattle.std.specs.Prelude.{◌≡◌, true, ◌+◌, ◌≤◌, length, drop};
 ghost use Rattle.channel.specs.Walk.{readable};
 ghost use Rattle.channel.specs.Fetch.{InBytes, Inside};
@@ -8,7 +10,7 @@ use channel::{Ccw, Fetched, Location};
 
 // How a read's data chain ended: at a CCW with its count left, and whether bytes were left over; or by a program check,
 // with the CCW that was fetched last.
-#[derive(Drop)]
+#[derive(Clone, Copy)]
 pub enum Moved {
     Ended {
         at: Location,

@@ -1,4 +1,6 @@
 // The run of a chain over an image with a fault list.
+#![tactic(auto)]
+
 ghost use Rattle.std.specs.Prelude.{◌≡◌, ◌≤◌, length};
 ghost use Rattle.address.specs.Model.{last_of};
 ghost use Rattle.position.specs.Standing.{Standing};
@@ -16,14 +18,14 @@ use position::Drive;
 use questions::Question;
 
 // What "limit" shows: the last CSW and the file mask.
-#[derive(Drop)]
+#[derive(Clone, Copy)]
 pub struct Limit {
     pub csw: Csw,
     pub mask: FileMask,
 }
 
 // What a run comes to: an end, a cut by a faulted data area, or "limit".
-#[derive(Drop)]
+#[derive(Clone, Copy)]
 pub enum Ran {
     Ended(End),
     Cut(Cut),
@@ -31,7 +33,7 @@ pub enum Ran {
 }
 
 // What a call comes to: a refusal, or the run.
-#[derive(Drop)]
+#[derive(Clone, Copy)]
 pub enum Trial {
     Refused(Question),
     Ran(Ran),

@@ -1,4 +1,6 @@
 // The call that reads: its questions, the first run, and all that follow it.
+#![tactic(auto)]
+
 ghost use Rattle.std.specs.Prelude.{◌≡◌};
 ghost use Rattle.reading_runs.specs.Conclusion.{leaving, MadeWithin, OutcomeLow};
 ghost use Rattle.whole_reading.specs.Reading.{reading_areas, Answers};

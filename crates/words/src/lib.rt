@@ -1,4 +1,6 @@
 // Texts out of a list: names stand in one byte string, a slash between each and the next. No knowledge of disks.
+#![tactic(auto)]
+
 ghost use Rattle.std.specs.Prelude.{◌≡◌, true, ◌+◌, ◌≤◌, length, drop};
 ghost use Rattle.text.specs.Text.{Puts};
 ghost use Rattle.words.specs.Words.{up_to, after, rest, item, short};

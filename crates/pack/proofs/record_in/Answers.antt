@@ -1,0 +1,28 @@
+-- `pack::record_in` meets its contract: each answer is a law of `place_in` at the tests that led there. Assumes nothing.
+use Rattle.pack.proofs.Answers.{not_record, record_short, record_length, record_whole}
+use borrow.Author.Rules.{rules}
+use native.Mathlib.Omega.{arith}
+use Rattle.pack.proofs.record_in.Goals as goal
+
+pub returns-then-tag-ne2 : goal.returns-then-tag-ne2
+returns-then-tag-ne2 c = record { value = not_record _ _ _ _ c.if-tag-ne2.true; bounded = tt }
+
+pub returns-then-next-start-lt8 : goal.returns-then-next-start-lt8
+returns-then-next-start-lt8 c = record { value = record_short _ _ _ _ c.if-tag-ne2.false c.if-next-start-lt8.true; bounded = tt }
+
+pub returns-then-next-start : goal.returns-then-next-start
+returns-then-next-start c = record { value = record_length _ _ _ _ c.if-tag-ne2.false c.if-next-start-lt8.false _ _ c.byte-key.ensures.value c.be16-len.ensures.value c.if-next-start.true; bounded = tt }
+
+pub returns : goal.returns
+returns c = record {
+  value = record_whole _ _ _ _ c.if-tag-ne2.false c.if-next-start-lt8.false _ _ c.byte-key.ensures.value c.be16-len.ensures.value
+      c.if-next-start.false c.be16.ensures.value c.be16-2.ensures.value c.byte.ensures.value;
+  bounded = record {
+    number = c.byte.ensures.upper_bound;
+    key_first = omega arith;
+    key_short = omega arith;
+    body_first = omega arith;
+    body_short = omega arith;
+    inside = search rules;
+  };
+}

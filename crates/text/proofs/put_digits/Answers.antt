@@ -1,0 +1,27 @@
+-- `text::put_digits` meets its contract. Invariant: the digits that are left of the number that is left, put at the place, make the whole.
+-- Measure: the digits left. Assumes nothing.
+use native.Mathlib.Nat.{mod-lt}
+use Prim.Native.Nat.{◌≤◌}
+use mathlib.Core.Path.{◌≡◌, refl, sym, ◌∙◌}
+use lib.ListN.{length-set}
+use Rattle.text.proofs.Written.{digits_turn, digits_end, puts_digits}
+use borrow.Author.Rules.{rules}
+use native.Mathlib.Omega.{arith}
+use Rattle.text.proofs.put_digits.Goals as goal
+
+pub loop-left-init : goal.loop-left-init
+loop-left-init c = (search rules, search rules, refl)
+
+pub character-requires : goal.character-requires
+character-requires c =
+    omega (arith, mod-lt c.loop-left.rest c.requires.base_nonzero, c.requires.base_bound)
+
+pub loop-left-preserved : goal.loop-left-preserved
+loop-left-preserved c = (
+  search rules,
+  simp length-set c.loop-left.invariant.1,
+  rw c.character.ensures (digits_turn _ _ _ _ _ c.loop-left-test.true) ∙ c.loop-left.invariant.2,
+)
+
+pub returns : goal.returns
+returns c = record { puts = puts_digits _ _ _ _ _ _ _ (sym (digits_end _ _ _ _ _ c.loop-left-test.false) ∙ c.loop-left.invariant.2) refl; value = search rules }
