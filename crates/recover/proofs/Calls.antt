@@ -14,7 +14,6 @@ use borrow.Author.Tests.{eqb-true, leb-true}
 use Rattle.base.specs.Choice.{pick, opt}
 use Rattle.base.proofs.Choice.{pick_true, pick_false, and_left, and_right}
 use Rattle.questions.specs.declared.Question.{Question}
-use Rattle.questions.specs.declared.Question.TheVariants as Question
 use Rattle.questions.specs.Areas.{chain_fits, storage_fits, program_fits, restart_arguments_fit, restart_areas}
 use Rattle.address.specs.declared.Extent.{Extent}
 use Rattle.address.specs.declared.Model.{Model}
@@ -25,7 +24,6 @@ use Rattle.recovery.specs.Recovery as Recovery
 use Rattle.recovery.specs.Report.{Report, report_from}
 use Rattle.report.specs.declared.Report as Code
 use Rattle.report.specs.declared.Reported.{Reported}
-use Rattle.report.specs.declared.Reported.TheVariants as Reported
 use Rattle.report.specs.declared.Reported.TheVariants.{Well}
 use Rattle.report.specs.Reported.{report_of, reported_of, Bounded}
 use Rattle.report.specs.declared.Told.{Told}

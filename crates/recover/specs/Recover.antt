@@ -2,7 +2,6 @@
 use Rattle.std.specs.Prelude.{ℕ, ◌≡◌, Bool, ◌&&◌, List, eqb, ltb, length}
 use Rattle.base.specs.Choice.{pick, opt}
 use Rattle.questions.specs.declared.Question.{Question}
-use Rattle.questions.specs.declared.Question.TheVariants as Question
 use Rattle.questions.specs.Areas.{chain_fits, storage_fits, restart_areas}
 use Rattle.address.specs.declared.Extent.{Extent}
 use Rattle.address.specs.declared.Model.{Model}

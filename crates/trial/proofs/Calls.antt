@@ -30,7 +30,6 @@ use Rattle.drive.specs.Run.{run_from}
 use Rattle.location.specs.Low.{Low}
 use Rattle.command.specs.Answer.{setting_with, lent_of}
 use Rattle.trial.specs.declared.Ran.{Ran}
-use Rattle.trial.specs.declared.Ran.TheVariants as Ran
 use Rattle.trial.specs.declared.Trial.TheVariants as Trial
 use Rattle.trial.specs.Run.{ran_of}
 use Rattle.trial.specs.Trial.{storage_of, Conclusion, refusal, concluded, begin, run_call, restarted_areas, restart_call, conclusion_of}

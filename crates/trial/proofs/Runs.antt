@@ -31,7 +31,6 @@ use Rattle.command.specs.declared.Answer.TheVariants.{Goes, Ends, Cuts}
 use Rattle.command.specs.Answer.{state_of, setting_with, lent_of}
 use Rattle.execute.specs.Executes.{Steps}
 use Rattle.trial.specs.declared.Ran.{Ran}
-use Rattle.trial.specs.declared.Ran.TheVariants as Ran
 use Rattle.trial.specs.Run.{RunsOn, Runs}
 
 -- ---- command by command

@@ -3,7 +3,6 @@ use Rattle.std.specs.Prelude.{ℕ, Bool, true, false, ◌&&◌, List, [], length
 use Rattle.std.proofs.Math.Option.{Option, none, some}
 use Rattle.base.specs.Choice.{pick, opt}
 use Rattle.questions.specs.declared.Question.{Question}
-use Rattle.questions.specs.declared.Question.TheVariants as Question
 use Rattle.questions.specs.Areas.{chain_fits, arguments_fit, storage_fits, image_fits, faults_fit, run_areas, restart_areas, restart_limit}
 use Rattle.address.specs.declared.Model.{Model}
 use Rattle.address.specs.Model.{last_of}
@@ -20,7 +19,6 @@ use Rattle.drive.specs.Step.{End, Cut, no_sense, cut_sense}
 use Rattle.drive.specs.Run.{Limit, run_from}
 use Rattle.command.specs.Answer.{setting_with, lent_of}
 use Rattle.trial.specs.declared.Trial.{Trial}
-use Rattle.trial.specs.declared.Trial.TheVariants as Trial
 use Rattle.trial.specs.Run.{ran_of, RanLow}
 
 -- ---- what a run shows
