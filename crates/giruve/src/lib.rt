@@ -16,8 +16,7 @@ use questions::{Checked, Question};
 use trial::Trial;
 
 // Questions 1 and 2: 0, 1 or 2.
-#[unsafe(no_mangle)]
-pub extern "C" fn giruve_check_image(model: u8, image: &[u8]) -> u8
+pub fn giruve_check_image(model: u8, image: &[u8]) -> u8
     ensures { result ≡ answer_of (image_answer_by model image.now) }
 {
     let Known::Model(m) = address::model_of(model) else {
@@ -27,8 +26,7 @@ pub extern "C" fn giruve_check_image(model: u8, image: &[u8]) -> u8
 }
 
 // Questions 1, 2 and 3: 0, 1, 2 or 3.
-#[unsafe(no_mangle)]
-pub extern "C" fn giruve_check_faults(model: u8, image: &[u8], faults: &[u8]) -> u8
+pub fn giruve_check_faults(model: u8, image: &[u8], faults: &[u8]) -> u8
     ensures { result ≡ answer_of (faults_answer_by model image.now faults.now) }
 {
     let Known::Model(m) = address::model_of(model) else {
@@ -38,8 +36,7 @@ pub extern "C" fn giruve_check_faults(model: u8, image: &[u8], faults: &[u8]) ->
 }
 
 // Questions 1 and 5: 0, 1 or 5.
-#[unsafe(no_mangle)]
-pub extern "C" fn giruve_check_extent(model: u8, extent: &[u8]) -> u8
+pub fn giruve_check_extent(model: u8, extent: &[u8]) -> u8
     ensures { result ≡ answer_of (extent_answer_by model extent.now) }
 {
     let Known::Model(m) = address::model_of(model) else {
@@ -49,8 +46,7 @@ pub extern "C" fn giruve_check_extent(model: u8, extent: &[u8]) -> u8
 }
 
 // Question 1 for a run, from the lengths of its areas and its command limit: 0 or 1.
-#[unsafe(no_mangle)]
-pub extern "C" fn giruve_check_areas(
+pub fn giruve_check_areas(
     chain: usize,
     arguments: usize,
     storage: usize,
@@ -67,8 +63,7 @@ pub extern "C" fn giruve_check_areas(
 }
 
 // Question 1 for the restart areas, from their lengths: 0 or 1.
-#[unsafe(no_mangle)]
-pub extern "C" fn giruve_check_restart_areas(program: usize, restart_arguments: usize) -> u8
+pub fn giruve_check_restart_areas(program: usize, restart_arguments: usize) -> u8
     ensures { result ≡ answer_of (restart_answer program restart_arguments) }
 {
     if questions::restart_areas(program, restart_arguments) {
@@ -101,8 +96,7 @@ fn hand_out(answer: &mut [u8], t: Trial) -> u8
 
 // A run of a chain: 0 ended, 64 "limit", 1, 2 or 3 refused. The answer area has 36 bytes; another length is refused by 1.
 // A refusal leaves storage and answer as they were.
-#[unsafe(no_mangle)]
-pub extern "C" fn giruve_run(
+pub fn giruve_run(
     model: u8,
     chain: &[u8],
     arguments: &[u8],
@@ -126,8 +120,7 @@ pub extern "C" fn giruve_run(
 }
 
 // A run of a restart program, with its own limit; the same numbers.
-#[unsafe(no_mangle)]
-pub extern "C" fn giruve_run_restart(
+pub fn giruve_run_restart(
     model: u8,
     chain: &[u8],
     arguments: &[u8],
@@ -162,8 +155,7 @@ pub extern "C" fn giruve_run_restart(
 }
 
 // Recovery from a report. An answer area is one of 10 bytes; returned is 0, or the refusing question's number.
-#[unsafe(no_mangle)]
-pub extern "C" fn giruve_recover(
+pub fn giruve_recover(
     model: u8,
     chain: &[u8],
     report: &[u8],
@@ -197,8 +189,7 @@ pub extern "C" fn giruve_recover(
 }
 
 // The whole reading. An answer area is one of 11 bytes; returned is 0 ended, 64 "limit", 65 "stopped", or the refusing question's number.
-#[unsafe(no_mangle)]
-pub extern "C" fn giruve_reading(
+pub fn giruve_reading(
     model: u8,
     chain: &[u8],
     arguments: &[u8],

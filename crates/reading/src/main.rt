@@ -1,34 +1,53 @@
-// The program: reads standard input to its end, does the reading, and prints its lines on standard output. The kit's contracts say
-// nothing of what is read or written, so what is proved is the text that is handed to the writing.
+// The program: reads standard input to its end, does the reading, and prints its lines on standard output. What is proved holds for every
+// reader and writer that tell their bytes; of those of the system no contract says what they give or take.
 #![tactic(auto)]
 
-ghost use Rattle.std.specs.Prelude.{◌≡◌, take};
-ghost use Rattle.io.specs.Counts.{IsPrefixLen};
+ghost use Rattle.std.specs.Prelude.{◌≡◌, ◌≤◌, length, take};
 ghost use Rattle.reading_session.specs.Session.{printed};
+ghost use Rattle.reading.specs.Printing.{Prints};
 
-use libc::STDOUT_FILENO;
 use standard_input::Received;
+use std::io::{self, Error, Read, Write};
 
 // The text for an input, at the front of an area; how many bytes it has.
 fn answer(input: &[u8], out: &mut [u8; reading_lines::ROOM]) -> usize
     ensures out_after { take result out.new ≡ printed input.now }
-    ensures prefix_len { IsPrefixLen result out.new }
+    ensures in_bounds { result ≤ length out.new }
 {
     let mut storage = [0u8; 4096];
     reading_session::run(input, &mut storage, out)
 }
 
-// An input of more than 60,000 bytes is refused, so one byte more is read and no further one. A read or a write that fails is told on
-// standard error: a failed read prints nothing.
-fn main() {
+// How a run ended.
+enum Ended {
+    Printed,
+    NotRead(Error),
+    NotWritten(Error),
+}
+
+// Reads an input to its end, and writes the text for it. One of more than 60,000 bytes is refused, so one byte more is read and no further
+// one. Where a read fails, nothing is written.
+fn read_and_print<R: Read, W: Write>(from: &mut R, to: &mut W) -> Ended
+    ensures { Prints (R.remaining from.old) (W.contents to.old) (W.contents to.new) result }
+{
     let mut input = [0u8; 60001];
-    let Received::Bytes(n) = standard_input::receive(&mut input) else {
-        os::fail(b"standard input");
-        return;
+    let n = match standard_input::receive(from, &mut input) {
+        Received::Bytes(n) => n,
+        Received::Failed(error) => return Ended::NotRead(error),
     };
     let mut out = [0u8; reading_lines::ROOM];
     let length = answer(&input[..n], &mut out);
-    if !io::write_all(STDOUT_FILENO, &out[..length]) {
-        os::fail(b"standard output");
+    match to.write_all(&out[..length]) {
+        Ok(()) => Ended::Printed,
+        Err(error) => Ended::NotWritten(error),
+    }
+}
+
+// A read or a write that fails is told on standard error.
+fn main(rt: HostRuntime) -> io::Result<()> {
+    match read_and_print(&mut rt.stdin(), &mut rt.stdout()) {
+        Ended::Printed => Ok(()),
+        Ended::NotRead(error) => eprintln!(rt; "standard input: {error}"),
+        Ended::NotWritten(error) => eprintln!(rt; "standard output: {error}"),
     }
 }

@@ -1,32 +1,33 @@
 // Standard input into a lent area.
 #![tactic(auto)]
 
-ghost use Rattle.standard_input.specs.Received.{Within};
+ghost use Rattle.standard_input.specs.Received.{Within, IsFront, Leaves};
 
-use libc::STDIN_FILENO;
+use std::io::{Error, Read};
 
-// What standard input held: so many bytes at the front of an area, or nothing known, as a read failed.
-#[derive(Clone, Copy)]
+// What an input held: so many bytes at the front of an area, or nothing known, as a read failed.
+#[derive(Drop)]
 pub enum Received {
     Bytes(usize),
-    Failed,
+    Failed(Error),
 }
 
 // Reads until the area is full or the input ends.
-pub fn receive(to: &mut [u8]) -> Received
-    ensures { Within result to.new }
+pub fn receive<R: Read>(from: &mut R, to: &mut [u8]) -> Received
+    ensures within { Within result to.new }
+    ensures front { IsFront (R.remaining from.old) result to.new }
+    ensures rest { Leaves (R.remaining from.old) (R.remaining from.new) result to.new }
 {
     let mut done = 0;
     while done < to.len() {
-        let got = libc::read(STDIN_FILENO, &mut to[done..]);
-        if got < 0 {
-            return Received::Failed;
+        match from.read(&mut to[done..]) {
+            Ok(0) => return Received::Bytes(done),
+            Ok(more) => done += more,
+            Err(error) => return Received::Failed(error),
         }
-        let more = io::count(got, &to[done..]);
-        if more == 0 {
-            return Received::Bytes(done);
-        }
-        done += more;
     }
     Received::Bytes(done)
 }
+
+#[cfg(test)]
+mod tests;
