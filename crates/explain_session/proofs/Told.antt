@@ -16,7 +16,6 @@ use Rattle.base.proofs.Bytes.{to_end}
 use Rattle.text.specs.Text.{Puts, ascii}
 use Rattle.text.proofs.Written.{puts_then}
 use Rattle.questions.specs.declared.Question.{Question}
-use Rattle.questions.specs.declared.Question.TheVariants as Question
 use Rattle.address.specs.declared.Model.TheVariants.{One}
 use Rattle.recovery.specs.Report.{report_from}
 use Rattle.report.specs.declared.Report as Code

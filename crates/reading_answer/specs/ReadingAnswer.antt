@@ -7,7 +7,6 @@ use Rattle.reading_runs.specs.declared.How.{How}
 use Rattle.reading_runs.specs.declared.How.TheVariants.{Ended, Limited, Stop}
 use Rattle.reading_runs.specs.declared.Over.{Over}
 use Rattle.reading_runs.specs.declared.Outcome.{Outcome}
-use Rattle.reading_runs.specs.declared.Outcome.TheVariants as Outcome
 
 -- what the call returns: 0 ended, "limit" or "stopped"
 abbrev pub how_number : How → ℕ

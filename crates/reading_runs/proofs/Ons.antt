@@ -27,7 +27,6 @@ use Rattle.command.specs.declared.Cut.{Cut}
 use Rattle.command.specs.declared.End.{End}
 use Rattle.trial.specs.declared.Limit as Code
 use Rattle.trial.specs.declared.Ran.{Ran}
-use Rattle.trial.specs.declared.Ran.TheVariants as Ran
 use Rattle.trial.specs.Run.{ran_of, Runs}
 use Rattle.demand_three.specs.WholeReading.{Entry, Restarted, Whole, restarted_in, restarted_run, final, given_in}
 use Rattle.reading_runs.specs.declared.How.{How}
