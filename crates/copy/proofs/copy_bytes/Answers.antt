@@ -1,7 +1,6 @@
 -- `copy::copy_bytes` meets its contract. Invariant: the bytes passed are copied, the rest is as it was. Measure: the bytes left. Assumes nothing.
-use Prim.Native.Nat.{◌≤◌, ◌-◌}
+use Prim.Native.Nat.{◌-◌}
 use mathlib.Core.Path.{◌≡◌, ◌∙◌}
-use mathlib.Core.List.{◌++◌}
 use lib.ListN.{length, length-set}
 use lib.Seq.{take-length}
 use Rattle.copy.proofs.Lists.{one_more}

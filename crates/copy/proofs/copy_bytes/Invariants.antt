@@ -1,6 +1,6 @@
 -- `copy::copy_bytes` meets its contract. Invariant: the bytes passed are copied, the rest is as it was. Measure: the bytes left. Assumes nothing.
 use Prim.Native.Nat.{◌≤◌, ◌-◌}
-use mathlib.Core.Path.{◌≡◌, ◌∙◌}
+use mathlib.Core.Path.{◌≡◌}
 use mathlib.Core.List.{◌++◌}
 use lib.ListN.{length, take, drop}
 use Rattle.copy.proofs.copy_bytes.Given as goal

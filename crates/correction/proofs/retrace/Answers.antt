@@ -1,6 +1,6 @@
 -- `correction::retrace` meets its contract. Invariant: the places so far, with the rest of the walk behind them, are the whole walk.
 -- Measure: the bytes left; each CCW takes at least one. Assumes nothing.
-use Prim.Native.Nat.{ℕ, ◌-◌, ◌≤◌}
+use Prim.Native.Nat.{ℕ, ◌-◌}
 use native.Mathlib.Omega.{arith}
 use mathlib.Core.Path.{◌≡◌, refl, sym, ◌∙◌}
 use mathlib.Core.Bool.{true}

@@ -1,7 +1,6 @@
 -- `decision::bound` meets its contract: by the decision. Assumes nothing.
 use mathlib.Core.Path.{sym, ◌∙◌}
 use Rattle.decision.proofs.Bounded.{plan_low, overflow_low, restart_in, restart_out, resumed_in, resumed_out, no_restart}
-use borrow.Enum.Refused.{opened}
 use Rattle.decision.proofs.bound.Goals as goal
 
 pub returns-then-seek_allowed : goal.returns-then-seek_allowed

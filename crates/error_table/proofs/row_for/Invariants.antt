@@ -1,7 +1,7 @@
 -- `error_table::row_for` meets its contract. Invariant: of the rows left, the first that fits is that of the whole table. Measure: the rows left.
 -- Assumes nothing.
 use Prim.Native.Nat.{◌+◌, ◌-◌}
-use mathlib.Core.Path.{◌≡◌, ◌∙◌}
+use mathlib.Core.Path.{◌≡◌}
 use mathlib.Core.List.{[], ◌∷◌}
 use lib.ListN.{drop}
 use Rattle.recovery.specs.Table as Table

@@ -1,6 +1,6 @@
 -- `explain_input::last_at` meets its contract. Invariant: from here on the extent's field is that of the whole. Measure: the bytes left. Assumes nothing.
 use Prim.Native.Nat.{◌-◌, ◌≤◌}
-use mathlib.Core.Path.{◌≡◌, ◌∙◌}
+use mathlib.Core.Path.{◌≡◌}
 use lib.ListN.{length}
 use Rattle.explain_input.specs.Found.{end_of}
 use Rattle.explain_input.proofs.last_at.Given as goal

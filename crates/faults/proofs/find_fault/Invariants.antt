@@ -1,7 +1,7 @@
 -- `faults::find_fault` meets its contract. Invariant: in a list that decodes, the fault is to be found from here on as from the start.
 -- Measure: the bytes left. Assumes nothing.
 use Prim.Native.Nat.{◌-◌}
-use mathlib.Core.Path.{◌≡◌, ◌∙◌}
+use mathlib.Core.Path.{◌≡◌}
 use mathlib.Core.Option.{some}
 use mathlib.Core.List.{List}
 use lib.ListN.{length}

@@ -1,7 +1,7 @@
 -- `faults::sound_faults` meets its contract. Invariant: in an image that decodes, the list is sound if what is left of it is.
 -- Measure: the bytes left. Assumes nothing.
 use Prim.Native.Nat.{◌-◌}
-use mathlib.Core.Path.{◌≡◌, ◌∙◌}
+use mathlib.Core.Path.{◌≡◌}
 use mathlib.Core.Option.{some}
 use lib.ListN.{length}
 use Rattle.pack.specs.Pack.{Decoded, decode_at}

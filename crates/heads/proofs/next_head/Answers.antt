@@ -1,6 +1,5 @@
 -- `heads::next_head` meets its contract: the definition, test by test. Assumes nothing.
 use mathlib.Core.Path.{sym, ◌∙◌}
-use borrow.Author.Tests.{leb-true, leb-false}
 use Rattle.heads.proofs.Reach.{step_ends, step_protected, step_reaches}
 use Rattle.heads.proofs.next_head.Goals as goal
 

@@ -1,8 +1,8 @@
 -- `heads::read_on` meets its contract. Invariant: what is read from here on is what is read from the first drive on, with turns enough for the
 -- heads left. Measure: the heads left. Assumes nothing.
-use Prim.Native.Nat.{◌+◌, ◌-◌, ◌≤◌}
+use Prim.Native.Nat.{◌-◌}
 use native.Mathlib.Omega.{arith}
-use mathlib.Core.Path.{◌≡◌, refl, ap, sym, ◌∙◌}
+use mathlib.Core.Path.{refl, ap, sym, ◌∙◌}
 use borrow.Author.Tests.{not-true, not-false}
 use Rattle.drive.specs.Drive.{past_zero}
 use Rattle.position.proofs.Places.{spotted, ended}

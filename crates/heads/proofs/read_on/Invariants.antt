@@ -1,7 +1,7 @@
 -- `heads::read_on` meets its contract. Invariant: what is read from here on is what is read from the first drive on, with turns enough for the
 -- heads left. Measure: the heads left. Assumes nothing.
 use Prim.Native.Nat.{ℕ, suc, ◌+◌, ◌-◌, ◌≤◌}
-use mathlib.Core.Path.{◌≡◌, ◌∙◌}
+use mathlib.Core.Path.{◌≡◌}
 use Rattle.pack.specs.Pack.{pack_of}
 use Rattle.drive.specs.Step as Step
 use Rattle.position.specs.Standing.{drive_of, Standing}

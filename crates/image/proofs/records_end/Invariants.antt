@@ -1,7 +1,7 @@
 -- `image::records_end` meets its contract. Invariant: the table marks the numbers of the records passed, and the image is sound if what
 -- is left is sound behind them. Measure: the bytes left. Assumes nothing.
 use Prim.Native.Nat.{ℕ, ◌-◌, ◌≤◌}
-use mathlib.Core.Path.{◌≡◌, ◌∙◌}
+use mathlib.Core.Path.{◌≡◌}
 use mathlib.Core.List.{List, [], ◌∷◌}
 use lib.ListN.{length}
 use Rattle.image.specs.Pass.{sound_inside}

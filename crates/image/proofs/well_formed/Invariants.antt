@@ -1,7 +1,7 @@
 -- `image::well_formed` meets its contract. Invariant: the image is well formed if what is left is, behind the track passed.
 -- Measure: the bytes left. Assumes nothing.
 use Prim.Native.Nat.{◌-◌, ◌≤◌}
-use mathlib.Core.Path.{◌≡◌, ◌∙◌}
+use mathlib.Core.Path.{◌≡◌}
 use lib.ListN.{length}
 use Rattle.address.specs.Model.{last_of}
 use Rattle.image.specs.declared.Previous.TheVariants.{Nothing}

@@ -1,7 +1,7 @@
 -- `pack::find_record` meets its contract. Invariant: where the bytes decode, the number is to be found from here on as from the start.
 -- Measure: the bytes left. Assumes nothing.
 use Prim.Native.Nat.{◌-◌}
-use mathlib.Core.Path.{◌≡◌, ◌∙◌}
+use mathlib.Core.Path.{◌≡◌}
 use mathlib.Core.Option.{some}
 use lib.ListN.{length}
 use Rattle.pack.specs.Pack.{Decoded, decode_at, numbered}

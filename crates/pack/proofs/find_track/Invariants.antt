@@ -1,9 +1,8 @@
 -- `pack::find_track` meets its contract. Invariant: in an image that decodes, the track is to be found from here on as from the front.
 -- Measure: the bytes left. Assumes nothing.
 use Prim.Native.Nat.{◌-◌, ◌≤◌}
-use mathlib.Core.Path.{◌≡◌, ◌∙◌}
+use mathlib.Core.Path.{◌≡◌}
 use mathlib.Core.Option.{some}
-use mathlib.Core.List.{◌++◌}
 use lib.ListN.{length}
 use Rattle.pack.specs.Pack.{Decoded, decode_at}
 use Rattle.pack.proofs.Lookup.{TrackOn}

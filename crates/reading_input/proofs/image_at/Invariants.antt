@@ -1,6 +1,6 @@
 -- `reading_input::image_at` meets its contract. Invariant: what is left of the walk ends where the whole does. Measure: the bytes left. Assumes nothing.
 use Prim.Native.Nat.{◌-◌, ◌≤◌}
-use mathlib.Core.Path.{◌≡◌, ◌∙◌}
+use mathlib.Core.Path.{◌≡◌}
 use lib.ListN.{length}
 use Rattle.reading_input.specs.Input.{image_at}
 use Rattle.reading_input.proofs.image_at.Given as goal

@@ -1,6 +1,6 @@
 -- `restart_areas::clear` meets its contract. Invariant: the bytes passed are 0, the rest is as it was. Measure: the bytes left. Assumes nothing.
 use Prim.Native.Nat.{◌≤◌, ◌-◌}
-use mathlib.Core.Path.{◌≡◌, ◌∙◌}
+use mathlib.Core.Path.{◌≡◌}
 use mathlib.Core.List.{◌++◌}
 use lib.ListN.{length, drop, replicate}
 use Rattle.restart_areas.proofs.clear.Given as goal

@@ -1,7 +1,7 @@
 -- `restart_areas::place` meets its contract. Invariant: what is left to be placed makes the same area. Measure: the bytes left. Assumes nothing.
-use Prim.Native.Nat.{◌+◌, ◌-◌, ◌≤◌}
+use Prim.Native.Nat.{◌-◌}
 use native.Mathlib.Nat.{add-zero}
-use mathlib.Core.Path.{◌≡◌, ◌∙◌}
+use mathlib.Core.Path.{◌∙◌}
 use lib.ListN.{length-set}
 use Rattle.restart_areas.proofs.Placing.{placed_more, placed_all}
 use borrow.Author.Rules.{rules}

@@ -1,6 +1,6 @@
 -- `restart_areas::place` meets its contract. Invariant: what is left to be placed makes the same area. Measure: the bytes left. Assumes nothing.
 use Prim.Native.Nat.{◌+◌, ◌-◌, ◌≤◌}
-use mathlib.Core.Path.{◌≡◌, ◌∙◌}
+use mathlib.Core.Path.{◌≡◌}
 use lib.ListN.{length, drop}
 use Rattle.restart_areas.specs.Placed.{placed}
 use Rattle.restart_areas.proofs.place.Given as goal

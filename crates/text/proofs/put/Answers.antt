@@ -1,8 +1,8 @@
 -- `text::put` meets its contract. Invariant: the bytes that are left, put where the loop stands, make the whole. Measure: the bytes left.
 -- Assumes nothing.
-use Prim.Native.Nat.{◌+◌, ◌-◌, ◌≤◌}
+use Prim.Native.Nat.{◌-◌}
 use native.Mathlib.Nat.{add-zero}
-use mathlib.Core.Path.{◌≡◌, refl, sym, ◌∙◌}
+use mathlib.Core.Path.{refl, sym, ◌∙◌}
 use lib.ListN.{length-set}
 use Rattle.text.proofs.Written.{put_turn, put_end}
 use borrow.Author.Rules.{rules}

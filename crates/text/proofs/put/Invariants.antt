@@ -1,7 +1,7 @@
 -- `text::put` meets its contract. Invariant: the bytes that are left, put where the loop stands, make the whole. Measure: the bytes left.
 -- Assumes nothing.
 use Prim.Native.Nat.{◌+◌, ◌-◌, ◌≤◌}
-use mathlib.Core.Path.{◌≡◌, ◌∙◌}
+use mathlib.Core.Path.{◌≡◌}
 use lib.ListN.{length, drop}
 use Rattle.text.specs.Text.{written}
 use Rattle.text.proofs.put.Given as goal

@@ -1,8 +1,7 @@
 -- `text::put_digits` meets its contract. Invariant: the digits that are left of the number that is left, put at the place, make the whole.
 -- Measure: the digits left. Assumes nothing.
 use native.Mathlib.Nat.{mod-lt}
-use Prim.Native.Nat.{◌≤◌}
-use mathlib.Core.Path.{◌≡◌, refl, sym, ◌∙◌}
+use mathlib.Core.Path.{refl, sym, ◌∙◌}
 use lib.ListN.{length-set}
 use Rattle.text.proofs.Written.{digits_turn, digits_end, puts_digits}
 use borrow.Author.Rules.{rules}

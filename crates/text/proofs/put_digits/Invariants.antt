@@ -1,7 +1,7 @@
 -- `text::put_digits` meets its contract. Invariant: the digits that are left of the number that is left, put at the place, make the whole.
 -- Measure: the digits left. Assumes nothing.
 use Prim.Native.Nat.{◌≤◌}
-use mathlib.Core.Path.{◌≡◌, ◌∙◌}
+use mathlib.Core.Path.{◌≡◌}
 use lib.ListN.{length}
 use Rattle.text.specs.Text.{written, digits}
 use Rattle.text.proofs.put_digits.Given as goal

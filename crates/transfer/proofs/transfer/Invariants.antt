@@ -1,7 +1,7 @@
 -- `transfer::transfer` meets its contract. Invariant: what is left of the read at the CCW that it has come to leaves what the whole read leaves.
 -- Measure: the bytes left; each CCW takes at least one. Assumes nothing.
 use Prim.Native.Nat.{◌-◌, ◌≤◌}
-use mathlib.Core.Path.{◌≡◌, ◌∙◌}
+use mathlib.Core.Path.{◌≡◌}
 use mathlib.Core.Bool.{true}
 use lib.ListN.{length, drop}
 use Rattle.channel.specs.Ccw.{Lent}

@@ -1,6 +1,6 @@
 -- `words::end_of` meets its contract. Invariant: the text left ends where the whole does. Measure: the bytes left. Assumes nothing.
 use Prim.Native.Nat.{◌+◌, ◌-◌, ◌≤◌}
-use mathlib.Core.Path.{◌≡◌, ◌∙◌}
+use mathlib.Core.Path.{◌≡◌}
 use lib.ListN.{length, drop}
 use Rattle.words.specs.Words.{up_to}
 use Rattle.words.proofs.end_of.Given as goal

@@ -1,6 +1,6 @@
 -- `words::item_at` meets its contract. Invariant: what is left of the way leads where the whole does. Measure: the bytes left. Assumes nothing.
 use Prim.Native.Nat.{◌-◌, ◌≤◌}
-use mathlib.Core.Path.{◌≡◌, ◌∙◌}
+use mathlib.Core.Path.{◌≡◌}
 use lib.ListN.{length, drop}
 use Rattle.words.specs.Words.{rest}
 use Rattle.words.proofs.item_at.Given as goal
