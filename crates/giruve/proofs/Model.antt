@@ -5,7 +5,6 @@ use mathlib.Core.Path.{◌≡◌, sym, ◌∙◌, ap}
 use Rattle.base.specs.Choice.{opt}
 use Rattle.address.specs.declared.Model.{Model}
 use Rattle.address.specs.declared.Known.{Known}
-use Rattle.address.specs.declared.Known.TheVariants as Known
 use Rattle.address.specs.Model.{model_of, known_of}
 
 module _ {A : Type 0} (n : ℕ) (k : Known) (is : known_of k ≡ model_of n) (y : A) (f : Model → A) where

@@ -8,11 +8,9 @@ use lib.ListN.{length}
 use borrow.Author.Tests.{eq-eqb, ne_eqb}
 use Rattle.base.specs.Choice.{pick}
 use Rattle.questions.specs.declared.Question.{Question}
-use Rattle.questions.specs.declared.Question.TheVariants as Question
 use Rattle.questions.specs.Number.{number_of}
 use Rattle.trial.specs.declared.Ran.{Ran}
 use Rattle.trial.specs.declared.Trial.{Trial}
-use Rattle.trial.specs.declared.Trial.TheVariants as Trial
 use Rattle.trial.specs.Trial.{Conclusion, conclusion_of}
 use Rattle.run_answer.specs.RunAnswer.{Writes, Numbers}
 use Rattle.giruve.specs.Run.{call_number, answer_after, run_handing, run_handed, HandsOut}

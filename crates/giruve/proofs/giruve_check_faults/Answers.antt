@@ -1,0 +1,16 @@
+-- `giruve::giruve_check_faults` meets its contract: the model by its number, and then the answer of the call that it stands for, as a number. Assumes nothing.
+use mathlib.Core.Path.{ap, ◌∙◌}
+use Rattle.questions.specs.Number.{answer_of}
+use Rattle.giruve.specs.Model.{faults_answer_by}
+use Rattle.giruve.proofs.Model.{by_known, by_unknown}
+use Rattle.giruve.proofs.giruve_check_faults.Goals as goal
+
+pub returns-in_default : goal.returns-in_default
+unfolding faults_answer_by
+returns-in_default c =
+    c.number.ensures ∙ ap answer_of (by_unknown _ c.model_of.result c.model_of.ensures _ _ c.in_default.is)
+
+pub returns : goal.returns
+unfolding faults_answer_by
+returns c =
+    c.answer.ensures ∙ ap answer_of (c.check_faults.ensures ∙ by_known _ c.model_of.result c.model_of.ensures _ _ _ c.in-Model.is)
