@@ -165,14 +165,14 @@ fn named<'a>(
     found
 }
 
-/// The crates of `Rattle·NAME.` and `Rattle·NAME·`. The code says where, the text what.
+/// The crates of `Rattle.NAME.`. The code says where, the text what.
 fn in_modules<'a>(text: &'a str, code: &str) -> Vec<(&'a str, usize)> {
     let mut found = Vec::new();
-    for (at, prefix) in code.match_indices("Rattle·") {
+    for (at, prefix) in code.match_indices("Rattle.") {
         let rest = &text[at + prefix.len()..];
         let end = rest.find(|c: char| !c.is_ascii_alphanumeric() && c != '_');
         let end = end.unwrap_or(rest.len());
-        if rest[end..].starts_with(['.', '·']) {
+        if rest[end..].starts_with('.') {
             found.push((&rest[..end], at));
         }
     }
@@ -202,7 +202,7 @@ mod tests {
         said(&check(&Repository::of(&[
             (FILE, list),
             ("crates/base/specs/A.antt", "x : ℕ\n"),
-            ("crates/text/specs/B.antt", "use Rattle·base.specs.A.{x}\n"),
+            ("crates/text/specs/B.antt", "use Rattle.base.specs.A.{x}\n"),
             ("crates/text/src/lib.rt", code),
         ])))
     }
@@ -229,9 +229,9 @@ mod tests {
     #[test]
     fn own_modules_and_those_of_others() {
         let code = "\
-ghost use Rattle·text·specs.specs.B.{y};
+ghost use Rattle.text.specs.B.{y};
 fn f()
-    ensures { ⌜ Rattle·other·specs.specs.C.z ⌝ }
+    ensures { Rattle.other.specs.C.z }
 { io::w() }
 ";
         assert_eq!(
