@@ -3,6 +3,7 @@
 
 use crate::files::{File, Place, Repository};
 use crate::tokens::{antt_code, line_at, rt_code, rust_names};
+use crate::uses::Parts;
 use std::collections::{BTreeMap, HashSet};
 
 pub const FILE: &str = "crates.txt";
@@ -67,8 +68,10 @@ pub fn read(file: &File) -> (Vec<Layer>, Vec<Place>) {
             });
         }
         let layer = layers.last_mut().expect("there is a layer");
+        // Behind the name may stand what is made of the crate: `giruve_c staticlib`.
+        let name = name.split_whitespace().next().unwrap_or("");
         layer.crates.push(Entry {
-            name: name.trim().to_string(),
+            name: name.to_string(),
             line: index + 1,
             needs: needs.split_whitespace().map(str::to_string).collect(),
         });
@@ -150,8 +153,10 @@ fn named<'a>(
         if file.is_rt() {
             let known =
                 |name: &str| entries.iter().any(|entry| entry.name == name) || KIT.contains(&name);
+            let brought = brought(file);
+            let other = |name: &str| known(name) && !brought.iter().any(|one| one == name);
             let paths = in_paths(&file.text, &code);
-            at_places.extend(paths.into_iter().filter(|(name, _)| known(name)));
+            at_places.extend(paths.into_iter().filter(|(name, _)| other(name)));
         }
         for (name, at) in at_places {
             if name != entry.name && name != "std" {
@@ -177,6 +182,25 @@ fn in_modules<'a>(text: &'a str, code: &str) -> Vec<(&'a str, usize)> {
         }
     }
     found
+}
+
+/// The names that `use` lines bring in from elsewhere: `io` of `use std::io;` and `use std::io::{self}`.
+fn brought(file: &File) -> Vec<String> {
+    let mut names = Vec::new();
+    for one in Parts::of(file).uses.iter().filter(|one| one.code) {
+        for item in &one.items {
+            let path = match (one.path.as_str(), item.name.as_str()) {
+                (path, "self") => path.to_string(),
+                ("", _) => item.path.clone(),
+                (path, _) => format!("{path}::{}", item.path),
+            };
+            if path.contains("::") {
+                let own = path.rsplit("::").next().unwrap_or("");
+                names.push(if item.name == "self" { own } else { &item.name }.to_string());
+            }
+        }
+    }
+    names
 }
 
 /// The first names of Rust paths.
@@ -238,6 +262,23 @@ fn f()
             with(GOOD, code),
             ["crates.txt:5: `text` does not list `other`, which crates/text/src/lib.rt:3 names"]
         );
+    }
+
+    #[test]
+    fn a_module_of_std_is_no_library() {
+        for line in ["use std::io;", "use std::io::{self, Read};", "use std::fmt::{self as io};"] {
+            let code = format!("{line}\nfn f() {{ io::w() }}\n");
+            assert_eq!(
+                with("# ground\nbase:\n\n# top\ntext: base\n", &code),
+                [""; 0],
+                "{line}"
+            );
+        }
+    }
+
+    #[test]
+    fn what_is_made_of_a_crate() {
+        assert_eq!(with(&GOOD.replace("text:", "text staticlib:"), CODE), [""; 0]);
     }
 
     #[test]
