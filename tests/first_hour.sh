@@ -10,7 +10,7 @@ work=$(mktemp -d)
 trap 'rm -rf "$work"' EXIT
 
 proved='exit 0'
-unproved='echo "rt was asked: $*" >&2; exit 1'
+unproved='echo "rt: was asked: $*" >&2; exit 1'
 
 # ---- text
 
@@ -55,7 +55,7 @@ takes one_line 's/ *#.*//; :next; N; s/ *#.*//; s/\n/ /; b next'
 
 compare "not proved" <(outcome "$unproved" bash samples/run.sh samples/worked.hex) - << 'END'
 exit 83
-! rt was asked: run
+! rt: was asked: run
 ! samples/run.sh: `reading` is not proved; what the prover says is in target/log/reading.out
 END
 compare "missing file" <(outcome "$unproved" bash samples/run.sh samples/wroked.hex) - << 'END'
