@@ -1,8 +1,8 @@
 #!/usr/bin/env bash
 # Edits of the definitions that make a theorem false, in a folder named by the theorem's crate: of demand 3, of which bytes of storage recovery
-# changes, of the head that 10A goes by, of where 9 and 11 put the rest of a read, and of the actions besides these. Each is applied in a copy of the crates; then a law that the theorem rests on, or the theorem
-# itself, must not be proved, and the first error must say so (tests/refusals). The test of this test: the edits of tests/theorem/bad are none,
-# and each must be reported.
+# changes, of the head that 10A goes by, of where 9 and 11 put the rest of a read, and of the actions besides these. Each is applied in a copy
+# of the crates; then a law that the theorem rests on, or the theorem itself, must not be proved, and the errors up to the one that says so must
+# say that facts fail (tests/refusals). The test of this test: the edits of tests/theorem/bad are none, and each must be reported.
 set -euo pipefail
 cd "$(dirname "${BASH_SOURCE[0]}")/.."
 source tests/edits.sh

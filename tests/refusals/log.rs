@@ -12,7 +12,7 @@ const NO_FACT: [&str; 6] = [
 ];
 
 /// An error that only says that an earlier one stands in its way.
-const CONSEQUENCE: &str = "was not admitted";
+const CONSEQUENCE: [&str; 3] = ["was not admitted", "was not checked", "were not checked"];
 
 /// Where a fact failed.
 #[derive(Debug, PartialEq)]
@@ -68,24 +68,30 @@ fn of_fact(first: &First) -> Result<(), String> {
     Ok(())
 }
 
-/// Where a fact failed: at the first error, or nowhere in a proof where it is an obligation that no answer is written for. Else what
-/// is wrong with the refusal.
-pub fn by_fact(log: &str) -> Result<Option<Failed<'_>>, String> {
+/// Where facts failed: at the first error, and at those behind it up to one that says something else; nowhere in a proof where it is
+/// an obligation that no answer is written for. Else what is wrong with the refusal.
+pub fn by_facts(log: &str) -> Result<Vec<Failed<'_>>, String> {
     if !log.lines().any(|line| line.starts_with("logic=not-proved")) {
         return Err("the prover did not refuse it".into());
     }
     let mut krate = None;
+    let mut failed = vec![];
     for line in log.lines() {
         if line.starts_with("rt: chose --jobs ") {
             krate = line.rsplit(' ').next();
         }
-        if let Some(first) = error_in(line).filter(|error| !error.says.contains(CONSEQUENCE)) {
-            return of_fact(&first).map(|()| Some(Failed { krate, file: first.file }));
+        let Some(error) = error_in(line).filter(|error| !CONSEQUENCE.iter().any(|no| error.says.contains(no))) else {
+            continue;
+        };
+        match of_fact(&error) {
+            Ok(()) => failed.push(Failed { krate, file: error.file }),
+            Err(why) if failed.is_empty() => return Err(why),
+            Err(_) => break,
         }
     }
-    match log.lines().any(obligation) {
-        true => Ok(None),
-        false => Err("no error, and no obligation that is not proved".into()),
+    match failed.is_empty() && !log.lines().any(obligation) {
+        true => Err("no error, and no obligation that is not proved".into()),
+        false => Ok(failed),
     }
 }
 
@@ -138,7 +144,7 @@ mod tests {
     fn a_fact_that_fails() {
         let log = refused(&["./proofs/read/Answers.antt:28:6: error: `returns-else-n`: as printed, the two types first differ"]);
         let file = "./proofs/read/Answers.antt";
-        assert_eq!(by_fact(&log), Ok(Some(Failed { krate: None, file })));
+        assert_eq!(by_facts(&log), Ok(vec![Failed { krate: None, file }]));
     }
 
     #[test]
@@ -149,10 +155,14 @@ mod tests {
             "logic=proved functions=2",
             "rt: chose --jobs 2 for mid",
             "./proofs/Law.antt:7:9: error: `seven`: expected type `small 7 ≡ true`",
+            "./proofs/Law.antt:9:3: error: 2 declarations that depend on `seven`, which was rejected, were not checked: eight, nine",
+            "./proofs/Other.antt:5:9: error: `nine`: expected type `small 9 ≡ true`",
+            "./specs/Low.antt:5:9: error: `small`: expected type `Bool`",
             "rt: chose --jobs 2 for high",
+            "./proofs/Last.antt:5:9: error: `ten`: expected type `small 9 ≡ true`",
         ]);
-        let file = "./proofs/Law.antt";
-        assert_eq!(by_fact(&log), Ok(Some(Failed { krate: Some("mid"), file })));
+        let failed = |file| Failed { krate: Some("mid"), file };
+        assert_eq!(by_facts(&log), Ok(vec![failed("./proofs/Law.antt"), failed("./proofs/Other.antt")]));
     }
 
     const OBLIGATION: &str =
@@ -164,13 +174,13 @@ mod tests {
             "./proofs/run/Answers.antt:9:5: error: 1 declaration that depends on `low`, which was not admitted, was not checked: returns-2",
             OBLIGATION,
         ]);
-        assert_eq!(by_fact(&log), Ok(None));
+        assert_eq!(by_facts(&log), Ok(vec![]));
     }
 
     #[test]
     fn consequences_alone() {
         let log = refused(&["./proofs/run/Proof.antt:9:5: error: `run_spec`: `close` was not admitted (it has holes)"]);
-        assert!(by_fact(&log).is_err());
+        assert!(by_facts(&log).is_err());
     }
 
     #[test]
@@ -204,8 +214,8 @@ mod tests {
 
     #[test]
     fn no_refusal() {
-        assert!(by_fact("logic=proved functions=12").is_err());
-        assert!(by_fact("").is_err());
+        assert!(by_facts("logic=proved functions=12").is_err());
+        assert!(by_facts("").is_err());
     }
 
     #[test]
@@ -222,7 +232,7 @@ mod tests {
             "./proofs/Areas.antt:11:13: error: `limit_none`: `limit_fits` cannot be unfolded here",
             "src/lib.rt:63:8: error[unknown-name]: cannot find value `m` in this scope",
         ] {
-            assert!(by_fact(&refused(&[line, OBLIGATION])).is_err(), "{line}");
+            assert!(by_facts(&refused(&[line, OBLIGATION])).is_err(), "{line}");
         }
     }
 }

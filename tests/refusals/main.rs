@@ -80,17 +80,19 @@ fn read(log: &Path) -> Result<String, String> {
     Ok(String::from_utf8_lossy(&bytes).into_owned())
 }
 
-/// The file under `root` in which a law fails that the theorem of another file rests on.
+/// The first file under `root` in which a law fails that the theorem of another file rests on.
 fn theorem(root: &Path, of: &Path, log: &Path) -> Result<PathBuf, String> {
     let text = read(log)?;
-    let failed = log::by_fact(&text)?.ok_or("no law fails")?;
-    let krate = failed.krate.ok_or_else(|| format!("{} is of no crate that is named", failed.file))?;
-    let file = failed.file.strip_prefix("./").unwrap_or(failed.file);
-    let file = Path::new("crates").join(krate).join(file);
-    match reach::reached(root, of).contains(&file) {
-        true => Ok(file),
-        false => Err(format!("{} fails, on which {} does not rest", file.display(), of.display())),
-    }
+    let failed = log::by_facts(&text)?;
+    let files = failed.iter().filter_map(|one| {
+        let file = one.file.strip_prefix("./").unwrap_or(one.file);
+        Some(Path::new("crates").join(one.krate?).join(file))
+    });
+    let files: Vec<PathBuf> = files.collect();
+    let first = files.first().ok_or("no law of a crate that is named fails")?;
+    let reached = reach::reached(root, of);
+    let found = files.iter().find(|file| reached.contains(*file));
+    found.cloned().ok_or_else(|| format!("{} fails, on which {} does not rest", first.display(), of.display()))
 }
 
 /// Prints what was found, or what is wrong, and answers which of the two it is.
@@ -107,7 +109,7 @@ fn main() {
             lines.iter().for_each(|line| println!("{line}"));
             !lines.is_empty()
         }),
-        ["log", log] => Ok(told(read(Path::new(log)).and_then(|text| log::by_fact(&text).map(|_| "refused".into())))),
+        ["log", log] => Ok(told(read(Path::new(log)).and_then(|text| log::by_facts(&text).map(|_| "refused".into())))),
         ["theorem", root, of, log] => {
             let found = theorem(Path::new(root), Path::new(of), Path::new(log));
             Ok(told(found.map(|file| format!("refused in {}", file.display()))))
