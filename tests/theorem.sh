@@ -12,13 +12,14 @@ declare -A promises=([demand_three]="demand 3" [recovery_storage]="the promise a
     [overflow_rest]="the promise about the rest of a read" [other_actions]="the promise about the other actions")
 workers=2
 
-# The crates below each theorem are built for the copies to take.
-for crate in "${!theorems[@]}"; do
-    (cd "crates/$crate" && rt lib) > /dev/null
-done
 work=$(mktemp -d)
 trap 'rm -rf "$work"' EXIT
 rustc -O --edition 2021 tests/refusals/main.rs -o "$work/refusals"
+
+# What stands below the theorems is built for the copies to take.
+for crate in "${!theorems[@]}"; do
+    (cd "crates/$crate" && rt lib) > "$work/built" 2>&1 || { cat "$work/built"; exit 1; }
+done
 
 # refused COPY CRATE EDIT: whether the crate's theorem is refused with an edit, and where; the crates are as they were behind it.
 refused() {
