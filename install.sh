@@ -26,8 +26,7 @@ if [ -n "${DESTDIR-}" ]; then
 fi
 cd "$(dirname "${BASH_SOURCE[0]}")"
 
-rt staticlib giruve >&2 ||
-    fail 83 "the library is not proved or not built, and nothing is installed; what the prover says of a crate is in target/log/CRATE.out"
+bash staticlib.sh >&2 || fail 83 "the library is not proved or not built, and nothing is installed; what the prover says stands above"
 version=$(sed -n 's/^#define GIRUVE_VERSION "\(.*\)"$/\1/p' include/giruve.h)
 
 install -D -m 644 target/staticlib/libgiruve.a "$root$prefix/lib/libgiruve.a"

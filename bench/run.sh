@@ -3,6 +3,6 @@
 set -euo pipefail
 cd "$(dirname "${BASH_SOURCE[0]}")/.."
 
-rt staticlib giruve
+bash staticlib.sh
 rustc -O -C codegen-units=1 --edition 2021 bench/main.rs -L target/staticlib -l static=giruve -o target/bench
 target/bench

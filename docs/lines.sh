@@ -16,7 +16,7 @@ edits() {
 row='%-20s %7s %12s %7s %6s\n'
 printf "$row" crate code definitions proof edits
 sums=(0 0 0 0)
-while IFS=: read -r crate _; do
+while IFS=': ' read -r crate _; do
     counts=("$(lines "crates/$crate/src" rt)" "$(lines "crates/$crate/specs" antt)" "$(lines "crates/$crate/proofs" antt)"
         "$(edits "crates/$crate/must-fail")")
     printf "$row" "$crate" "${counts[@]}"

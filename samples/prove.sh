@@ -18,35 +18,39 @@ minutes() {
     echo $((($1 * each + 59) / 60))
 }
 
-# progress CRATES. Of what `rt check` says: a line for each crate that it proves, and whatever else it says itself. What the prover says of
-# each crate is in target/log.
+# progress CRATES UNPROVED. Of what `rt run` says: a line for each crate that it proves, and whatever else it says itself.
 progress() {
-    local count=0 line
+    local count=$(($1 - $2)) crate='' since=$SECONDS line
     while IFS= read -r line; do
         case $line in
-            'rt: '*' proved (unchanged '*) count=$((count + 1)) ;;
-            'rt: '*' proved ('*)
-                count=$((count + 1))
-                line=${line#rt: }
-                echo "$count of $1 proved: ${line/ proved/}"
+            'rt: chose --jobs '*)
+                crate=${line##* }
+                since=$SECONDS
                 ;;
-            'rt: ok, '* | 'rt: '*", and wrote what its file 'stdout' has "*) ;;
+            'logic=proved '* | 'linked target='*)
+                count=$((count + 1))
+                echo "$count of $1 proved: $crate ($((SECONDS - since)) s)"
+                ;;
+            'logic=not-proved'*) echo "$crate NOT PROVED ($((SECONDS - since)) s)" ;;
+            'rt: running '* | 'rt: nothing has changed '* | 'rt: '*': begins with what a check kept in '*) ;;
             'rt: '*) echo "$line" ;;
         esac
     done
 }
 
-# prove PROGRAM, in the repository's root. What is proved and unchanged is not proved again. The status is that of `rt check`.
+# prove PROGRAM, in the repository's root, which makes crates/PROGRAM/out/PROGRAM. What is proved and unchanged is not proved again. The
+# status is that of `rt run`, which runs the program too, on no input; all that it says is in target/log.
 prove() {
     local crate crates unproved=0
     mapfile -t crates < <(crates_of "$1")
     for crate in "${crates[@]}"; do
-        if [ ! -f "target/stamp/$crate" ]; then
+        if [ ! -f "crates/$crate/out/rlib/stamp" ] && [ ! -f "crates/$crate/out/$crate.stamp" ]; then
             unproved=$((unproved + 1))
         fi
     done
     if [ "$unproved" -gt 0 ]; then
-        echo "crates to prove for \`$1\`: $unproved, about $(minutes "$unproved") min (\`rt try $1\` runs it unproved, in seconds)" >&2
+        echo "crates to prove for \`$1\`: $unproved, about $(minutes "$unproved") min (\`rt try\` in crates/$1 runs it unproved, in seconds)" >&2
     fi
-    rt check "$1" | progress "${#crates[@]}" >&2
+    mkdir -p target/log
+    (cd "crates/$1" && rt run < /dev/null 2>&1 > /dev/null) | tee "target/log/$1.out" | progress "${#crates[@]}" "$unproved" >&2
 }

@@ -34,10 +34,10 @@ work=$(mktemp -d)
 trap 'rm -rf "$work"' EXIT
 input "$1" > "$work/bytes" || exit
 cd "$repository"
-prove "$program" || fail 83 "\`$program\` is not proved; what the prover says of a crate is in target/log/CRATE.out"
+prove "$program" || fail 83 "\`$program\` is not proved; what the prover says is in target/log/$program.out"
 
 # The program's own status is 0 even where a read or a write failed; it says so on standard error.
-if ! "target/bin/$program" < "$work/bytes" > "$work/answer" 2> "$work/failure" || [ -s "$work/failure" ]; then
+if ! "crates/$program/out/$program" < "$work/bytes" > "$work/answer" 2> "$work/failure" || [ -s "$work/failure" ]; then
     fail 84 "\`$program\` failed: $(cat "$work/failure")"
 fi
 cat "$work/answer"

@@ -1,10 +1,10 @@
 #!/usr/bin/env bash
-# Runs the program target/bin/explain on every sample and compares what it prints with the lines beside the sample; then on an input of the
+# Runs the program crates/explain/out/explain on every sample and compares what it prints with the lines beside the sample; then on an input of the
 # greatest length, and on one that is a byte longer.
 set -euo pipefail
 cd "$(dirname "${BASH_SOURCE[0]}")/.."
 source tests/compare.sh
-explain=target/bin/explain
+explain=crates/explain/out/explain
 
 # A chain of so many zero bytes, no report, and an extent of so many.
 zeros() {

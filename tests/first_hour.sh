@@ -10,7 +10,7 @@ work=$(mktemp -d)
 trap 'rm -rf "$work"' EXIT
 
 proved='exit 0'
-unproved='echo "rt was asked: $*" >&2; exit 1'
+unproved='echo "rt: was asked: $*" >&2; exit 1'
 
 # ---- text
 
@@ -55,8 +55,8 @@ takes one_line 's/ *#.*//; :next; N; s/ *#.*//; s/\n/ /; b next'
 
 compare "not proved" <(outcome "$unproved" bash samples/run.sh samples/worked.hex) - << 'END'
 exit 83
-! rt was asked: check reading
-! samples/run.sh: `reading` is not proved; what the prover says of a crate is in target/log/CRATE.out
+! rt: was asked: run
+! samples/run.sh: `reading` is not proved; what the prover says is in target/log/reading.out
 END
 compare "missing file" <(outcome "$unproved" bash samples/run.sh samples/wroked.hex) - << 'END'
 exit 81
@@ -106,14 +106,15 @@ END
 
 # A repository of three crates, whose program is a script.
 copy=$work/copy
-mkdir -p "$copy/samples" "$copy/target/bin" "$copy/target/stamp"
+mkdir -p "$copy/samples" "$copy"/crates/{ground,middle}/out/rlib "$copy/crates/reading/out"
+stamps=("$copy"/crates/{ground,middle}/out/rlib/stamp "$copy/crates/reading/out/reading.stamp")
 cp samples/*.sh "$copy/samples"
 printf '# ground\nground:  # nothing\nother: ground\nmiddle: ground\n\nreading: middle io libc  # other\n' > "$copy/crates.txt"
-touch "$copy"/target/stamp/{ground,middle,reading}
+touch "${stamps[@]}"
 
 # answers NAME LINES EXPECTED
 answers() {
-    script "$copy/target/bin/reading" "$2"
+    script "$copy/crates/reading/out/reading" "$2"
     compare "answer: $1" <(outcome "$proved" bash "$copy/samples/run.sh" samples/worked.hex) <(printf '%s\n' "$3")
 }
 
@@ -134,40 +135,42 @@ END
 
 # ---- progress
 
-rm "$copy"/target/stamp/{middle,reading}
+rm "${stamps[@]:1}"
+# The seconds that a crate takes are those between two lines.
 cat > "$work/said" << 'END'
-fn ground::one: proved
-rt: ground proved (unchanged since it was last proved)
+rt: middle: begins with what a check kept in /elsewhere/crates/middle
+rt: chose --jobs 2 for middle
 fn middle::two: proved
-rt: middle proved (12 s)
-rt: reading proved (9 s)
-rt: reading ran as nobody, and wrote what its file 'stdout' has (0 s)
-rt: ok, 3 crates proved
+logic=proved functions=1 sum=0 native=nat,char,string
+rt: chose --jobs 2 for reading
+fn reading::main: proved
+linked target=x86_64-unknown-linux-gnu files=out/reading.o
+rt: running out/reading; to give it other input, run that file yourself
 END
-compare "progress" <(outcome "cat $work/said" bash "$copy/samples/run.sh" samples/worked.hex) - << 'END'
+compare "progress" <(outcome "cat $work/said >&2" bash "$copy/samples/run.sh" samples/worked.hex | sed 's/([0-9] s)/(N s)/') - << 'END'
 exit 0
-! crates to prove for `reading`: 2, about 1 min (`rt try reading` runs it unproved, in seconds)
-! 2 of 3 proved: middle (12 s)
-! 3 of 3 proved: reading (9 s)
+! crates to prove for `reading`: 2, about 1 min (`rt try` in crates/reading runs it unproved, in seconds)
+! 2 of 3 proved: middle (N s)
+! 3 of 3 proved: reading (N s)
 end 000028 0C 00 0000
 END
 cat > "$work/said" << 'END'
-rt: ground proved (unchanged since it was last proved)
-rt: middle NOT PROVED (exit 1, 3 s)
-rt: reading NOT PROVED: its dependency middle is not proved
-rt: FAILED: middle reading
+rt: chose --jobs 2 for middle
+src/lib.rt:1:1: error: no
+logic=not-proved
+rt: the library middle did not build, so nothing above it was checked
 END
-compare "progress: not proved" <(outcome "cat $work/said; exit 1" bash "$copy/samples/run.sh" samples/worked.hex) - << 'END'
+compare "progress: not proved" \
+    <(outcome "cat $work/said >&2; exit 1" bash "$copy/samples/run.sh" samples/worked.hex | sed 's/([0-9] s)/(N s)/') - << 'END'
 exit 83
-! crates to prove for `reading`: 2, about 1 min (`rt try reading` runs it unproved, in seconds)
-! rt: middle NOT PROVED (exit 1, 3 s)
-! rt: reading NOT PROVED: its dependency middle is not proved
-! rt: FAILED: middle reading
-! samples/run.sh: `reading` is not proved; what the prover says of a crate is in target/log/CRATE.out
+! crates to prove for `reading`: 2, about 1 min (`rt try` in crates/reading runs it unproved, in seconds)
+! middle NOT PROVED (N s)
+! rt: the library middle did not build, so nothing above it was checked
+! samples/run.sh: `reading` is not proved; what the prover says is in target/log/reading.out
 END
+compare "progress: all that is said" "$copy/target/log/reading.out" "$work/said"
 for program in reading explain; do
-    count=$(crates_of "$program" | wc -l)
-    compare "progress: crates of $program" <(echo "rt: ok, $count crates proved") <(rt check "$program" | tail -n 1)
+    compare "progress: crates of $program" <(crates_of "$program" | wc -l) <((cd "crates/$program" && rt check) | grep -cE '^(library|crate) ')
 done
 for jobs in 1 2 4; do
     RT_JOBS=$jobs minutes 45

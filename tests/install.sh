@@ -1,6 +1,6 @@
 #!/usr/bin/env bash
-# What install.sh installs and refuses, and that C programs find the library by pkg-config alone. `rt` is a script here: needs the library in
-# target/staticlib.
+# What install.sh installs and refuses, and that C programs find the library by pkg-config alone. `rt` is a script here: needs the library,
+# which staticlib.sh makes.
 set -euo pipefail
 cd "$(dirname "${BASH_SOURCE[0]}")/.."
 source tests/compare.sh
@@ -25,7 +25,7 @@ END_OF_FILES
 
 # installs NAME FOLDER COMMAND .. A command, run elsewhere, installs below this folder and says so.
 installs() {
-    printf 'exit 0\n! rt was asked: staticlib giruve, in %s\ninstall.sh: giruve %s is installed below %s\n' \
+    printf 'exit 0\n! rt was asked: lib, in %s/crates/giruve_c\ninstall.sh: giruve %s is installed below %s\n' \
         "$repository" "$version" "$2" > "$work/expected"
     compare "installs: $1" <(cd "$work/elsewhere" && umask 077 && outcome "$said" "${@:3}") "$work/expected"
     compare "files: $1" <(files "$2") "$work/files"
@@ -75,7 +75,7 @@ compare "two prefixes" <(cd "$work/elsewhere" && outcome "$said" "${install[@]}"
 compare "not proved" <(cd "$work/elsewhere" && outcome "echo not proved; exit 1" "${install[@]}" "$work/unproved") - << 'END_OF_OUTCOME'
 exit 83
 ! not proved
-! install.sh: the library is not proved or not built, and nothing is installed; what the prover says of a crate is in target/log/CRATE.out
+! install.sh: the library is not proved or not built, and nothing is installed; what the prover says stands above
 END_OF_OUTCOME
 touch "$work/a_file"
 compare "no folder" <(cd "$work/elsewhere" && outcome "$said" "${install[@]}" "$work/a_file" | head -n 1) <(echo "exit 84")

@@ -1,6 +1,6 @@
 #!/usr/bin/env bash
 # Runs the commands of every page, or of those that are named, and holds what they print to the pages (tests/pages). Needs every crate
-# proved. The pages' own commands write the library in target/staticlib, and they write nothing outside target/.
+# proved. The pages' own commands write the library in target/staticlib, and they write nothing outside target/ but what `rt` makes of a crate.
 #   bash tests/pages.sh
 #   bash tests/pages.sh docs/TRAINERS.md
 set -euo pipefail
@@ -14,7 +14,7 @@ rustc --edition 2021 tests/pages/main.rs -o "$work/pages"
 
 # others ACTION ..: of the files that no page may change.
 others() {
-    find . \( -path ./target -o -path ./.git \) -prune -o -type f "$@"
+    find . \( -path ./target -o -path ./.git -o -path './crates/*/out' \) -prune -o -type f "$@"
 }
 
 pages=("$@")
@@ -23,12 +23,12 @@ if [ $# = 0 ]; then
     rm -rf target/staticlib target/worked
 fi
 
-# `rt staticlib giruve` proves giruve each time, and several pages have it: it is done once, and what it printed is shown again.
+# `rt lib` checks giruve_c each time, and several pages have it: it is done once, and what it printed is shown again.
 rt=$(command -v rt)
 mkdir "$work/bin"
 cat > "$work/bin/rt" << SCRIPT
 #!/usr/bin/env bash
-if [ "\$*" != "staticlib giruve" ]; then
+if [ "\$*" != lib ]; then
     exec "$rt" "\$@"
 elif [ ! -f "$work/said" ]; then
     "$rt" "\$@" > "$work/says" 2>&1 || { status=\$?; cat "$work/says"; exit "\$status"; }

@@ -1,10 +1,10 @@
 #!/usr/bin/env bash
-# Runs the program target/bin/reading on every sample and compares what it prints with the lines beside the sample; then on an input of the
+# Runs the program crates/reading/out/reading on every sample and compares what it prints with the lines beside the sample; then on an input of the
 # greatest length, and on one that is a byte longer.
 set -euo pipefail
 cd "$(dirname "${BASH_SOURCE[0]}")/.."
 source tests/compare.sh
-reading=target/bin/reading
+reading=crates/reading/out/reading
 
 # What a sample prints. All 4,096 recoveries of this one are alike, and only the lines behind them are written beside it.
 expected() {

@@ -1,53 +1,36 @@
 #!/usr/bin/env bash
 # Edits of the definitions that make a theorem false, in a folder named by the theorem's crate: of demand 3, of which bytes of storage recovery
-# changes, of the head that 10A goes by, of where 9 and 11 put the rest of a read, and of the actions besides these. Each is applied in a copy of the crates; then a law that the theorem rests on, or the theorem
-# itself, must not be proved, and the first error must say so (tests/refusals). The test of this test: the edits of tests/theorem/bad are none,
-# and each must be reported. An edit: `# why`, `file: PATH`, then pairs of `old: TEXT` and `new: TEXT`.
+# changes, of the head that 10A goes by, of where 9 and 11 put the rest of a read, and of the actions besides these. Each is applied in a copy
+# of the crates; then a law that the theorem rests on, or the theorem itself, must not be proved, and the errors up to the one that says so must
+# say that facts fail (tests/refusals). The test of this test: the edits of tests/theorem/bad are none, and each must be reported.
 set -euo pipefail
 cd "$(dirname "${BASH_SOURCE[0]}")/.."
+source tests/edits.sh
 
 declare -A theorems=([demand_three]=DemandThree [recovery_storage]=Storage [head_reached]=Head [overflow_rest]=Whole [other_actions]=Other)
 declare -A promises=([demand_three]="demand 3" [recovery_storage]="the promise about storage" [head_reached]="the promise about the head reached"
     [overflow_rest]="the promise about the rest of a read" [other_actions]="the promise about the other actions")
 workers=2
 
-rt check "${!theorems[@]}" > /dev/null
 work=$(mktemp -d)
 trap 'rm -rf "$work"' EXIT
 rustc -O --edition 2021 tests/refusals/main.rs -o "$work/refusals"
 
-# apply COPY EDIT
-apply() {
-    local line file='' old='' text rest
-    while IFS= read -r line; do
-        case $line in
-            'file: '*) file=${line#file: } ;;
-            'old: '*) old=${line#old: } ;;
-            'new: '*)
-                text=$(cat "$1/$file"; printf x)
-                rest=${text#*"$old"}
-                if [[ $rest == "$text" || $rest == *"$old"* ]]; then
-                    echo "the old text does not stand in $file exactly once"
-                    return 1
-                fi
-                text=${text%%"$old"*}${line#new: }$rest
-                printf %s "${text%x}" > "$1/$file"
-                ;;
-        esac
-    done < "$2"
-}
+# What stands below the theorems is built for the copies to take.
+for crate in "${!theorems[@]}"; do
+    (cd "crates/$crate" && rt lib) > "$work/built" 2>&1 || { cat "$work/built"; exit 1; }
+done
 
 # refused COPY CRATE EDIT: whether the crate's theorem is refused with an edit, and where; the crates are as they were behind it.
 refused() {
     local status=0
     if apply "$1" "$3"; then
-        (cd "$1" && rt check "$2") > "$1/log" 2>&1 || true
+        (cd "$1/crates/$2" && rt check) > "$1/log" 2>&1 || true
         "$work/refusals" theorem "$1" "crates/$2/proofs/${theorems[$2]}.antt" "$1/log" || status=$?
     else
         status=2
     fi
-    rm -r "$1/crates"
-    cp -r crates "$1"
+    restore "$1" . "$3"
     return $status
 }
 
@@ -63,10 +46,7 @@ crate_of() {
 # worker NUMBER: every edit whose turn it is, in a copy of its own.
 worker() {
     local copy=$work/copy$1 at status
-    mkdir -p "$copy/target"
-    cp -r crates crates.txt "$copy"
-    # What `rt check` has proved; other tests may write beside it.
-    cp -r target/rlib target/stamp target/log "$copy/target"
+    copy_crates "$copy"
     for ((at = $1; at < ${#edits[@]}; at += workers)); do
         status=0
         refused "$copy" "$(crate_of "${edits[at]}")" "${edits[at]}" > "$work/said$at" || status=$?
@@ -74,14 +54,7 @@ worker() {
     done
 }
 
-running=()
-for ((number = 0; number < workers; number++)); do
-    worker "$number" &
-    running+=($!)
-done
-for one in "${running[@]}"; do
-    wait "$one"
-done
+in_turn worker "$workers"
 
 declare -A count
 for at in "${!edits[@]}"; do

@@ -4,13 +4,11 @@ use std::collections::BTreeSet;
 use std::fs;
 use std::path::{Path, PathBuf};
 
-/// The file of the module that a `use` line names, if it is one of proofs: `Rattle·CRATE.proofs.NAME` and
-/// `Rattle·CRATE·proofs.proofs.NAME` are `crates/CRATE/proofs/NAME.antt`.
+/// The file of the module that a `use` line names, if it is one of proofs: `Rattle.CRATE.proofs.NAME` is `crates/CRATE/proofs/NAME.antt`.
 fn proof_file(line: &str) -> Option<PathBuf> {
-    let path = line.strip_prefix("use Rattle·")?.split_whitespace().next()?;
+    let path = line.strip_prefix("use Rattle.")?.split_whitespace().next()?;
     let path = path.split(".{").next()?;
-    let (library, module) = path.split_once('.')?;
-    let name = library.strip_suffix("·proofs").unwrap_or(library);
+    let (name, module) = path.split_once('.')?;
     let module = module.strip_prefix("proofs.")?;
     Some(Path::new("crates").join(name).join("proofs").join(module.replace('.', "/") + ".antt"))
 }
@@ -37,9 +35,9 @@ mod tests {
     #[test]
     fn files_of_imports() {
         let file = |line| proof_file(line).map(|path| path.display().to_string());
-        assert_eq!(file("use Rattle·recovery.proofs.Restored.{restored}"), Some("crates/recovery/proofs/Restored.antt".into()));
-        assert_eq!(file("use Rattle·drive·proofs.proofs.Origin as Origin"), Some("crates/drive/proofs/Origin.antt".into()));
-        assert_eq!(file("use Rattle·drive.specs.Step.{Cut}"), None);
+        assert_eq!(file("use Rattle.recovery.proofs.Restored.{restored}"), Some("crates/recovery/proofs/Restored.antt".into()));
+        assert_eq!(file("use Rattle.drive.proofs.Origin as Origin"), Some("crates/drive/proofs/Origin.antt".into()));
+        assert_eq!(file("use Rattle.drive.specs.Step.{Cut}"), None);
         assert_eq!(file("use lib.ListN.{length}"), None);
     }
 }

@@ -257,7 +257,7 @@ rt try reading; echo $?
 
     #[test]
     fn what_is_listed_and_stands_nowhere() {
-        let files = [(LIST, ""), ("A.md", "`rt prove`\n")];
+        let files = [(LIST, ""), ("A.md", "`rt prove` `rt tidy`\n")];
         let places = said(&check(&Repository::of(&files)));
         assert_eq!(places, [format!("{LIST}:1: no page has `bash .ci/run`")]);
     }

@@ -11,6 +11,8 @@ const TIMED: [&str; 2] = ["README.md", FIGURES];
 const NOTES: &str = "docs/requests/";
 const HEADER: [&str; 6] = ["crate", "seconds", "code", "definitions", "proof", "edits"];
 const SUMS: &str = "all";
+/// In place of the seconds of a crate that was not there when they were measured.
+const UNMEASURED: &str = "–";
 
 const UNITS: [&str; 14] = [
     "hour",
@@ -138,7 +140,7 @@ fn of_table(file: &File, counted: &str) -> Vec<Place> {
         };
         let seconds: Option<u32> = (cells.len() > 1)
             .then(|| cells.remove(1))
-            .and_then(|cell| cell.parse().ok());
+            .and_then(|cell| if cell == UNMEASURED { Some(0) } else { cell.parse().ok() });
         if cells != counted {
             places.push(file.place(line, format!("docs/lines.sh counts: {}", counted.join(" "))));
         }
@@ -195,6 +197,12 @@ all       84           56  12309      4
     #[test]
     fn the_table_as_it_is_counted() {
         let page = format!("It takes 3 minutes.\n\n{TABLE}\nMore | x |\n");
+        assert_eq!(of(&page, ""), [""; 0]);
+    }
+
+    #[test]
+    fn a_crate_without_seconds() {
+        let page = TABLE.replace("| 4 | 10", "| – | 10").replace("| 7 | 84", "| 3 | 84");
         assert_eq!(of(&page, ""), [""; 0]);
     }
 

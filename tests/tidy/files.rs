@@ -38,7 +38,7 @@ impl File {
 
     /// Whether it answers what `rt` asks of one function.
     pub fn is_proof(&self) -> bool {
-        self.path.ends_with("/Proof.antt")
+        PROOFS.contains(&self.path.rsplit('/').next().unwrap_or(""))
     }
 
     pub fn is_page(&self) -> bool {
@@ -53,6 +53,9 @@ impl File {
         }
     }
 }
+
+/// What the files of a function's proof are called.
+const PROOFS: [&str; 3] = ["Invariants.antt", "Answers.antt", "Proof.antt"];
 
 /// The pages, the sources of every crate, and all other text that is written by hand.
 pub struct Repository {
@@ -142,11 +145,17 @@ fn walk(root: &Path, folder: &str, paths: &mut Vec<String>) -> io::Result<()> {
         let path = format!("{folder}{}", entry.file_name().to_string_lossy());
         if !entry.file_type()?.is_dir() {
             paths.push(path);
-        } else if path != "target" && path != ".git" {
+        } else if !is_built(&path) {
             walk(root, &format!("{path}/"), paths)?;
         }
     }
     Ok(())
+}
+
+/// What the tests write, what git keeps, and what `rt` makes of a crate.
+fn is_built(folder: &str) -> bool {
+    let of_crate = folder.strip_prefix("crates/").and_then(|path| path.split_once('/'));
+    folder == "target" || folder == ".git" || of_crate.is_some_and(|(_, below)| below == "out")
 }
 
 fn with_folders(paths: &[String]) -> BTreeSet<String> {

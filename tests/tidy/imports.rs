@@ -55,7 +55,7 @@ mod tests {
     #[test]
     fn used_in_antt() {
         let text = "\
-use A.{x, y as z, _≤_, []}
+use A.{x, y as z, ◌≤◌, []}
 use B as C
 use D.E
 use F as G
@@ -69,11 +69,11 @@ f = x (C.g z) E.i h 0 ≤ []
     fn unused_in_antt() {
         let text = "\
 use A.{walk,
-    y as z, _≤_}
+    y as z, ◌≤◌}
 use B as C
 use D.E
 -- walk z C E ≤
-f = walk-skip (s .walk) y <≤> \"z\"
+f = walk_skip s.walk y <≤> \"z\"
 ";
         let path = "crates/a/specs/A.antt";
         assert_eq!(
@@ -81,7 +81,7 @@ f = walk-skip (s .walk) y <≤> \"z\"
             [
                 format!("{path}:1: imports `walk` and does not use it"),
                 format!("{path}:2: imports `z` and does not use it"),
-                format!("{path}:2: imports `_≤_` and does not use it"),
+                format!("{path}:2: imports `◌≤◌` and does not use it"),
                 format!("{path}:3: imports `C` and does not use it"),
                 format!("{path}:4: imports `E` and does not use it"),
             ]
@@ -94,10 +94,10 @@ f = walk-skip (s .walk) y <≤> \"z\"
 use a::Type;
 use a::Told;
 use b::LIMIT;
-ghost use C.{p, _≤_};
+ghost use C.{p, ◌≤◌};
 ghost use D as E;
 fn f(x: Type)
-    requires { ⌜ p (x .y) ≤ E.z Told ⌝ }
+    requires { p x.y ≤ E.z Told }
 { 0..LIMIT }
 ";
         assert_eq!(of("crates/a/src/lib.rt", text), [""; 0]);
@@ -108,11 +108,11 @@ fn f(x: Type)
         let text = "\
 use a::Type;
 use b::LIMIT;
-ghost use C.{p, _*_};
+ghost use C.{p, ◌*◌};
 ghost use D as E;
 // Type LIMIT
 fn f(x: Other::Type)
-    requires { ⌜ p′ (x .p) ⌝ }
+    requires { p' x.p }
 { p * E }
 ";
         let path = "crates/a/src/lib.rt";
@@ -122,7 +122,7 @@ fn f(x: Other::Type)
                 format!("{path}:1: imports `Type` and does not use it"),
                 format!("{path}:2: imports `LIMIT` and does not use it"),
                 format!("{path}:3: imports `p` and does not use it"),
-                format!("{path}:3: imports `_*_` and does not use it"),
+                format!("{path}:3: imports `◌*◌` and does not use it"),
                 format!("{path}:4: imports `E` and does not use it"),
             ]
         );

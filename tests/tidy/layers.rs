@@ -3,6 +3,7 @@
 
 use crate::files::{File, Place, Repository};
 use crate::tokens::{antt_code, line_at, rt_code, rust_names};
+use crate::uses::Parts;
 use std::collections::{BTreeMap, HashSet};
 
 pub const FILE: &str = "crates.txt";
@@ -67,8 +68,10 @@ pub fn read(file: &File) -> (Vec<Layer>, Vec<Place>) {
             });
         }
         let layer = layers.last_mut().expect("there is a layer");
+        // Behind the name may stand what is made of the crate: `giruve_c staticlib`.
+        let name = name.split_whitespace().next().unwrap_or("");
         layer.crates.push(Entry {
-            name: name.trim().to_string(),
+            name: name.to_string(),
             line: index + 1,
             needs: needs.split_whitespace().map(str::to_string).collect(),
         });
@@ -150,8 +153,10 @@ fn named<'a>(
         if file.is_rt() {
             let known =
                 |name: &str| entries.iter().any(|entry| entry.name == name) || KIT.contains(&name);
+            let brought = brought(file);
+            let other = |name: &str| known(name) && !brought.iter().any(|one| one == name);
             let paths = in_paths(&file.text, &code);
-            at_places.extend(paths.into_iter().filter(|(name, _)| known(name)));
+            at_places.extend(paths.into_iter().filter(|(name, _)| other(name)));
         }
         for (name, at) in at_places {
             if name != entry.name && name != "std" {
@@ -165,18 +170,37 @@ fn named<'a>(
     found
 }
 
-/// The crates of `Rattle·NAME.` and `Rattle·NAME·`. The code says where, the text what.
+/// The crates of `Rattle.NAME.`. The code says where, the text what.
 fn in_modules<'a>(text: &'a str, code: &str) -> Vec<(&'a str, usize)> {
     let mut found = Vec::new();
-    for (at, prefix) in code.match_indices("Rattle·") {
+    for (at, prefix) in code.match_indices("Rattle.") {
         let rest = &text[at + prefix.len()..];
         let end = rest.find(|c: char| !c.is_ascii_alphanumeric() && c != '_');
         let end = end.unwrap_or(rest.len());
-        if rest[end..].starts_with(['.', '·']) {
+        if rest[end..].starts_with('.') {
             found.push((&rest[..end], at));
         }
     }
     found
+}
+
+/// The names that `use` lines bring in from elsewhere: `io` of `use std::io;` and `use std::io::{self}`.
+fn brought(file: &File) -> Vec<String> {
+    let mut names = Vec::new();
+    for one in Parts::of(file).uses.iter().filter(|one| one.code) {
+        for item in &one.items {
+            let path = match (one.path.as_str(), item.name.as_str()) {
+                (path, "self") => path.to_string(),
+                ("", _) => item.path.clone(),
+                (path, _) => format!("{path}::{}", item.path),
+            };
+            if path.contains("::") {
+                let own = path.rsplit("::").next().unwrap_or("");
+                names.push(if item.name == "self" { own } else { &item.name }.to_string());
+            }
+        }
+    }
+    names
 }
 
 /// The first names of Rust paths.
@@ -202,7 +226,7 @@ mod tests {
         said(&check(&Repository::of(&[
             (FILE, list),
             ("crates/base/specs/A.antt", "x : ℕ\n"),
-            ("crates/text/specs/B.antt", "use Rattle·base.specs.A.{x}\n"),
+            ("crates/text/specs/B.antt", "use Rattle.base.specs.A.{x}\n"),
             ("crates/text/src/lib.rt", code),
         ])))
     }
@@ -229,15 +253,32 @@ mod tests {
     #[test]
     fn own_modules_and_those_of_others() {
         let code = "\
-ghost use Rattle·text·specs.specs.B.{y};
+ghost use Rattle.text.specs.B.{y};
 fn f()
-    ensures { ⌜ Rattle·other·specs.specs.C.z ⌝ }
+    ensures { Rattle.other.specs.C.z }
 { io::w() }
 ";
         assert_eq!(
             with(GOOD, code),
             ["crates.txt:5: `text` does not list `other`, which crates/text/src/lib.rt:3 names"]
         );
+    }
+
+    #[test]
+    fn a_module_of_std_is_no_library() {
+        for line in ["use std::io;", "use std::io::{self, Read};", "use std::fmt::{self as io};"] {
+            let code = format!("{line}\nfn f() {{ io::w() }}\n");
+            assert_eq!(
+                with("# ground\nbase:\n\n# top\ntext: base\n", &code),
+                [""; 0],
+                "{line}"
+            );
+        }
+    }
+
+    #[test]
+    fn what_is_made_of_a_crate() {
+        assert_eq!(with(&GOOD.replace("text:", "text staticlib:"), CODE), [""; 0]);
     }
 
     #[test]

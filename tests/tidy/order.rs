@@ -106,9 +106,9 @@ mod tests {
     const A: (&str, &str) = ("crates/a/specs/A.antt", "pub x : ℕ\nx = 0\n");
     const B: (&str, &str) = (
         "crates/a/specs/B.antt",
-        "use Rattle·a·specs.specs.A.{x}\ny = x\n",
+        "use Rattle.a.specs.A.{x}\ny = x\n",
     );
-    const C: (&str, &str) = ("crates/c/specs/C.antt", "use Rattle·a.specs.B.{y}\nz = y\n");
+    const C: (&str, &str) = ("crates/c/specs/C.antt", "use Rattle.a.specs.B.{y}\nz = y\n");
 
     fn with(rows: &str) -> Vec<String> {
         let page =

@@ -58,10 +58,11 @@ fn paths(text: &str) -> Vec<&str> {
             Some(shorter) if !shorter.ends_with('.') => shorter,
             _ => path,
         };
-        // What is made up of variables is no path.
+        // What is made up of variables is no path, and what `rt` makes of a crate is not there before.
         let variable = rest[..start].ends_with('$') || rest[end..].starts_with(['$', '<', '(']);
+        let built = path.starts_with("crates/") && path.split('/').nth(2) == Some("out");
         let named = FOLDERS.iter().any(|folder| path.starts_with(folder)) || is_page_name(path);
-        if named && !variable {
+        if named && !variable && !built {
             found.push(path.strip_suffix('/').unwrap_or(path));
         }
         rest = &rest[end..];
@@ -163,7 +164,7 @@ mod tests {
         let page = "\
 `crates/a/specs/One.antt`, crates/a/specs, `tests/`, (docs/PAGE.md). See PAGE.md: `crates/*/specs/{One,Two}.antt`,
 `crates/CRATE/specs`, `crates/NAME/specs/T...antt`, `crates/…/specs`, `tests/*.sh`, tests/all.sh:3, /usr/tests/none,
-target/tests/none, x/docs/NONE.md, `tests/$name`, crates/<name>/x, `crates/a/specs/..`
+target/tests/none, x/docs/NONE.md, `tests/$name`, crates/<name>/x, `crates/a/specs/..`, crates/b/out/b
 ";
         assert_eq!(of("README.md", page), [""; 0]);
     }

@@ -1,4 +1,4 @@
-//! In an answer of a `Proof.antt`, a point that lies three or more `.before` back stands once,
+//! In an answer of a function's proof, a point that lies three or more `.before` back stands once,
 //! bound by `let`; none lies more than 40 back.
 
 use crate::declarations::declarations;
@@ -87,7 +87,7 @@ fn chains(code: &str) -> Vec<Chain> {
 }
 
 fn is_before(word: &Word) -> bool {
-    word.text == "before" && word.dot == Dot::Projects
+    word.text == "before" && word.dot != Dot::Without
 }
 
 /// Whether a projection stands right behind the word before it.
@@ -149,12 +149,12 @@ mod tests {
         let text = "\
 returns : tie.Need-returns
 returns c =
-    let start = c .before .before .before in
-    (start .before .x, c .before .before, c .before .before,
-        c .before .before .before .before .y, d .before .before .before)
+    let start = c.before.before.before in
+    (start.before.x, c.before.before, c.before.before,
+        c.before.before.before.before.y, d.before.before.before)
 
 other : tie.Need-other
-other c = c .before .before .before .z
+other c = c.before.before.before.z
 ";
         assert_eq!(of(text), [""; 0]);
     }
@@ -164,9 +164,9 @@ other c = c .before .before .before .z
         let text = "\
 returns : tie.Need-returns
 returns c =
-    f (c .before .before .before .x)
-    (c .before .before
-        .before) (c .before .before .before .y)
+    f (c.before.before.before.x)
+    (c.before.before.before)
+    (c.before.before.before.y)
 ";
         assert_eq!(
             of(text),
@@ -179,14 +179,14 @@ returns c =
         let text = "\
 returns : tie.Need-returns
 returns c =
-    f ((g c) .h .before .before .before)
-    ((g c) .h  .before .before .before)
-    (c .h .before .before .before)
+    f ((g c).h.before.before.before)
+    ((g c).h.before.before.before)
+    (c.h.before.before.before)
 ";
         assert_eq!(
             of(text),
             [format!(
-                "{PATH}:4: `returns`: 2 times `(g c) .h` and 3 `.before`"
+                "{PATH}:4: `returns`: 2 times `(g c).h` and 3 `.before`"
             )]
         );
     }
@@ -194,7 +194,7 @@ returns c =
     #[test]
     fn too_far_back() {
         let text = |count| {
-            let chain = " .before".repeat(count);
+            let chain = ".before".repeat(count);
             format!("returns : tie.Need-returns\nreturns c = c{chain}\n")
         };
         assert_eq!(of(&text(40)), [""; 0]);
@@ -206,7 +206,7 @@ returns c =
 
     #[test]
     fn other_files_are_not_asked() {
-        let text = "f : ℕ\nf c = g (c .before .before .before) (c .before .before .before)\n";
+        let text = "f : ℕ\nf c = g (c.before.before.before) (c.before.before.before)\n";
         let places = check(&Repository::of(&[("crates/a/proofs/F.antt", text)]));
         assert!(places.is_empty());
     }

@@ -38,17 +38,36 @@ fn closing_brace(code: &str, from: usize) -> usize {
     code.len()
 }
 
-/// All that is antt: the clauses, and what stands between corners.
+/// All that is antt: the clauses, those of closures too, and what stands in braces behind `ghost`.
 pub fn ghost(code: &str) -> Vec<Range<usize>> {
     let mut found = clauses(code);
-    let mut at = 0;
-    while let Some(open) = code[at..].find('⌜') {
-        let from = at + open;
-        let end = code[from..].find('⌝').map_or(code.len(), |to| from + to);
-        found.push(from..end);
-        at = end;
+    let inside = |found: &[Range<usize>], at| found.iter().any(|one| one.contains(&at));
+    for (at, word) in rust_names(code) {
+        if inside(&found, at) {
+            continue;
+        }
+        let behind = &code[at + word.len()..];
+        let open = match word {
+            "requires" | "ensures" => clause_opens(behind),
+            "ghost" if !behind.trim_start().starts_with("use ") => {
+                behind.find(['{', ';', '(']).filter(|to| behind[*to..].starts_with('{'))
+            }
+            _ => None,
+        };
+        if let Some(open) = open {
+            let from = at + word.len() + open;
+            found.push(at..from + closing_brace(&antt_code(&code[from..]), 0));
+        }
     }
     found
+}
+
+/// Where the brace of a clause opens behind its word, a star and its name.
+fn clause_opens(behind: &str) -> Option<usize> {
+    let open = behind.find('{')?;
+    let between = behind[..open].trim().trim_start_matches('*').trim_start();
+    let is_name = between.chars().all(|c| c.is_alphanumeric() || c == '_');
+    is_name.then_some(open)
 }
 
 pub struct Function<'a> {
@@ -130,8 +149,8 @@ mod tests {
     fn a_clause_ends_with_its_brace() {
         let code = "\
 fn f() -> T
-    requires { ⌜ a {A = ℕ}
-        b ⌝ }
+    requires { a {A = ℕ}
+        b }
     ensures text { c }
 {
     requires_not();
@@ -144,17 +163,37 @@ fn f() -> T
         assert_eq!(
             found,
             [
-                "requires { ⌜ a {A = ℕ}\n        b ⌝ }",
+                "requires { a {A = ℕ}\n        b }",
                 "ensures text { c }"
             ]
         );
     }
 
     #[test]
-    fn corners_are_antt_wherever_they_stand() {
-        let code = "while x ⌜ y ⌝ { z }";
+    fn ghost_items_and_clauses_of_closures() {
+        let code = "\
+ghost use A.{b};
+struct A {
+    ghost low: { c ≤ {d} },
+}
+impl Model for A {
+    ghost Value = { List ℕ };
+}
+fn f() {
+    g(move |x| requires { h x -- }
+        } { x });
+    requires_not(); ensures(x);
+}
+";
         let found: Vec<&str> = ghost(code).into_iter().map(|range| &code[range]).collect();
-        assert_eq!(found, ["⌜ y "]);
+        assert_eq!(
+            found,
+            [
+                "ghost low: { c ≤ {d} }",
+                "ghost Value = { List ℕ }",
+                "requires { h x -- }\n        }",
+            ]
+        );
     }
 
     #[test]
@@ -213,9 +252,9 @@ pub extern \"C\" fn two(a: u8, b: u8);
 // fn no(a: u8) {
 impl A {
     pub fn f(self, b: u8) -> bool
-        requires { ⌜ g {A = ℕ} (fn x) ⌝ }
-        ensures low { λ r. -- {
-            ⌜ r < b ⌝ }
+        requires { g {A = ℕ} (fn x) }
+        ensures low { -- {
+            result < b }
     {
         if self.a < b { // }
             return put(b\"}\", b'}', '{');

@@ -7,7 +7,7 @@ use crate::tokens::{blank, line_at, rt_code, rust_names};
 
 const FILE: &str = "docs/ARCHITECTURE.md";
 const HEADING: &str = "## What recovery does with storage";
-const FIRST: (&str, &str) = ("giruve", "giruve_recover");
+const FIRST: (&str, &str) = ("giruve_c", "giruve_recover");
 const LENT: &str = "storage";
 
 #[derive(Clone, Copy, PartialEq)]
@@ -229,7 +229,7 @@ pub extern \"C\" fn giruve_recover(
     chain: &[u8],
     storage: &mut [u8],
 ) -> u8
-    ensures { λ r. ⌜ now storage ⌝ }
+    ensures { f storage.old storage.new }
 {
     if !fits(
         chain.len(),
@@ -251,8 +251,8 @@ fn again(s: &mut [u8]) -> u8 {
 }
 ";
     const ROWS: [&str; 5] = [
-        "| `giruve::giruve_recover` | `crates/giruve/src/lib.rt:9` | `storage.len(),` | takes its length |",
-        "| `giruve::giruve_recover` | `crates/giruve/src/lib.rt:13` | `base::change(3, storage)` | lends it on |",
+        "| `giruve_c::giruve_recover` | `crates/giruve_c/src/lib.rt:9` | `storage.len(),` | takes its length |",
+        "| `giruve_c::giruve_recover` | `crates/giruve_c/src/lib.rt:13` | `base::change(3, storage)` | lends it on |",
         "| `base::change` | `crates/base/src/lib.rt:3` | `bytes[at] ^= 1;` | stores a byte |",
         "| `base::change` | `crates/base/src/lib.rt:4` | `again(bytes)` | lends it on |",
         "| `base::again` | `crates/base/src/lib.rt:7` | `change(2, s)` | lends it on |",
@@ -264,7 +264,7 @@ fn again(s: &mut [u8]) -> u8 {
             rows.join("\n")
         );
         said(&check(&Repository::of(&[
-            ("crates/giruve/src/lib.rt", CALL),
+            ("crates/giruve_c/src/lib.rt", CALL),
             ("crates/base/src/lib.rt", BELOW),
             (FILE, &page),
         ])))

@@ -139,9 +139,9 @@ pub fn line_at(text: &str, at: usize) -> usize {
 #[derive(Clone, Copy, PartialEq, Debug)]
 pub enum Dot {
     Without,
-    /// `Module.word`
+    /// `Module.word`, or `value.word`: which of the two, the word in front says.
     Joined,
-    /// `value .word`
+    /// `(value).word`
     Projects,
 }
 
@@ -154,7 +154,7 @@ pub struct Word<'a> {
 
 /// Whether a character ends an antt name.
 fn separates(c: char) -> bool {
-    c.is_whitespace() || "(){}.;,@\"«»⌜⌝".contains(c)
+    c.is_whitespace() || "(){}.;,@\"«»".contains(c)
 }
 
 fn begins_word(text: &str, at: usize) -> bool {
@@ -218,6 +218,9 @@ pub fn rust_names(code: &str) -> Vec<(usize, &str)> {
     found
 }
 
+/// Where the arguments of an operator stand in its name: `◌+◌`.
+const HOLE: char = '◌';
+
 /// The antt names that a text uses.
 #[derive(Default)]
 pub struct Names<'a>(HashSet<&'a str>);
@@ -234,16 +237,16 @@ impl<'a> Names<'a> {
         for word in words(code) {
             if word.dot == Dot::Without {
                 self.0.insert(word.text);
-                self.0.extend(word.text.split('_'));
+                self.0.extend(word.text.split(HOLE));
                 self.0.extend(word.text.split(['[', ']', '|']));
             }
         }
     }
 
-    /// Whether a name is used; of an operator, each part between its underscores.
+    /// Whether a name is used; of an operator, each part between its holes.
     pub fn has(&self, name: &str) -> bool {
-        let mut parts = name.split('_').filter(|part| !part.is_empty());
-        if name.contains('_') {
+        let mut parts = name.split(HOLE).filter(|part| !part.is_empty());
+        if name.contains(HOLE) {
             parts.all(|part| self.0.contains(part))
         } else {
             self.0.contains(name)
@@ -279,7 +282,7 @@ mod tests {
 
     #[test]
     fn dots() {
-        let found: Vec<(&str, Dot)> = words("Step.carry c .before (x).at λ r. y")
+        let found: Vec<(&str, Dot)> = words("Step.carry c.before (x).at λ r. y")
             .iter()
             .map(|word| (word.text, word.dot))
             .collect();
@@ -289,7 +292,7 @@ mod tests {
                 ("Step", Dot::Without),
                 ("carry", Dot::Joined),
                 ("c", Dot::Without),
-                ("before", Dot::Projects),
+                ("before", Dot::Joined),
                 ("x", Dot::Without),
                 ("at", Dot::Projects),
                 ("λ", Dot::Without),
@@ -301,11 +304,11 @@ mod tests {
 
     #[test]
     fn names_are_whole() {
-        let names = Names::of("walk-skip (a <? b) [] (1 +_) [x| c || d s .field");
+        let names = Names::of("walk_skip (a <? b) [] (1 +◌) [x| c || d s.field (t u).part");
         assert!(!names.has("walk"));
-        assert!(!names.has("_<_"));
-        assert!(!names.has("field"));
-        for name in ["walk-skip", "[]", "_+_", "_||_", "x", "_<?_"] {
+        assert!(!names.has("◌<◌"));
+        assert!(!names.has("field") && !names.has("part"));
+        for name in ["walk_skip", "[]", "◌+◌", "◌||◌", "x", "◌<?◌", "s"] {
             assert!(names.has(name), "{name}");
         }
     }

@@ -35,7 +35,7 @@ pub fn check(repository: &Repository) -> Vec<Place> {
                 here.has(name) || elsewhere.contains(&there) || paged.contains(name)
             };
             let constructed = one.constructors.iter().any(|name| used(name));
-            if !constructed && !used(one.name) && !is_answer(file, &one) {
+            if !constructed && !used(one.name) && !is_answer(file, &body, &one) {
                 let line = line_at(&file.text, one.at);
                 places.push(file.place(line, format!("nothing uses `{}`", one.name)));
             }
@@ -44,10 +44,13 @@ pub fn check(repository: &Repository) -> Vec<Place> {
     places
 }
 
-/// What `rt` takes from a `Proof.antt` by its name.
-fn is_answer(file: &File, one: &Declaration) -> bool {
+/// What `rt` takes by its name: of a file of invariants or of answers what has the type of a goal, and
+/// of a `Proof.antt` the whole.
+fn is_answer(file: &File, body: &str, one: &Declaration) -> bool {
     let function = file.path.rsplit('/').nth(1).unwrap_or("");
-    file.is_proof() && one.name == format!("{}-spec", function.replace('_', "-"))
+    let is_goal = |word: &str| word.split_once('.').is_some_and(|(_, goal)| goal == one.name);
+    let mut typed = one.ranges.iter().flat_map(|range| body[range.clone()].split_whitespace());
+    file.is_proof() && (one.name == format!("{function}_spec") || one.public && typed.any(is_goal))
 }
 
 /// The words between backticks, which no blank line parts.
@@ -123,9 +126,9 @@ l = 0
 pub m : ℕ
 m = 0
 ";
-        let own = "use Rattle·a·specs.specs.A.{f}\n";
-        let other = "use Rattle·a.specs.A as B\npub x-spec : ℕ\nx-spec = B.g\n";
-        let code = "fn x()\n    ensures { ⌜ Rattle·a.specs.A.h ⌝ }\n{}\n";
+        let own = "use Rattle.a.specs.A.{f}\n";
+        let other = "use Rattle.a.specs.A as B\npub x_spec : ℕ\nx_spec = B.g\n";
+        let code = "fn x()\n    ensures { Rattle.a.specs.A.h }\n{}\n";
         assert_eq!(
             of(&[
                 (A, text),
@@ -141,7 +144,7 @@ m = 0
 
     #[test]
     fn the_same_name_of_another_file() {
-        let other = "use Rattle·b.specs.A.{f}\n";
+        let other = "use Rattle.b.specs.A.{f}\n";
         assert_eq!(
             of(&[(A, "pub f : ℕ\nf = 0\n"), ("crates/c/specs/C.antt", other)]),
             [format!("{A}:1: nothing uses `f`")]
@@ -151,7 +154,7 @@ m = 0
     #[test]
     fn data_by_its_constructors() {
         let text = "pub data D : Type 0 where\n  one : D\n\npub data E : Type 0 where\n  two : E\n";
-        let other = "use Rattle·a.specs.A.{one}\n";
+        let other = "use Rattle.a.specs.A.{one}\n";
         assert_eq!(
             of(&[(A, text), ("crates/c/specs/C.antt", other)]),
             [format!("{A}:4: nothing uses `E`")]
@@ -168,12 +171,53 @@ returns c = 0
 old : tie.Need-old
 old c = 0
 
-pub two-words-spec : statement
-two-words-spec = tie.close (tie.spec returns)
+pub two_words_spec : statement
+two_words_spec = tie.close (tie.spec returns)
 ";
         assert_eq!(
             of(&[(path, text)]),
             [format!("{path}:4: nothing uses `old`")]
+        );
+        let path = "crates/a/proofs/two_words/Answers.antt";
+        let text = "\
+pub returns-else-n : goal.returns-else-n
+returns-else-n c = 0
+
+pub other : goal.returns
+other c = 0
+
+returns : goal.returns
+returns c = 0
+";
+        assert_eq!(
+            of(&[(path, text)]),
+            [
+                format!("{path}:4: nothing uses `other`"),
+                format!("{path}:7: nothing uses `returns`"),
+            ]
+        );
+        let path = "crates/a/proofs/two_words/Invariants.antt";
+        let text = "abbrev pub invariant-loop-n : goal.invariant-loop-n\ninvariant-loop-n l = l.n ≤ 8\n";
+        assert_eq!(of(&[(path, text)]), [""; 0]);
+    }
+
+    #[test]
+    fn what_an_attribute_names() {
+        let text = "pub f : ℕ\nf = 0\npub g : ℕ\ng = 0\npub h : ℕ\nh = 0\n";
+        let lemmas = "crates/b/proofs/B.antt";
+        let code = "\
+#[tactic(auto, using(crate::proofs::B::f), unfolding(a::specs::A::g))]
+fn x() {}
+// crate::proofs::B::h
+";
+        assert_eq!(
+            of(&[(A, text), (lemmas, text), ("crates/b/src/lib.rt", code)]),
+            [
+                format!("{A}:1: nothing uses `f`"),
+                format!("{A}:5: nothing uses `h`"),
+                format!("{lemmas}:3: nothing uses `g`"),
+                format!("{lemmas}:5: nothing uses `h`"),
+            ]
         );
     }
 }

@@ -34,10 +34,12 @@ impl Use {
     }
 }
 
-/// The `use` lines of a file, and its code without them.
+/// The `use` lines of a file, its code without them, and what attributes of it name of specs/ and
+/// proofs/, with dots.
 pub struct Parts {
     pub uses: Vec<Use>,
     pub body: String,
+    pub cited: Vec<String>,
 }
 
 impl Parts {
@@ -54,7 +56,11 @@ impl Parts {
         };
         let ranges: Vec<Range<usize>> = uses.iter().map(|one| one.range.clone()).collect();
         let body = blank(&code, &ranges);
-        Parts { uses, body }
+        let cited = match file.owner() {
+            Some(owner) if file.is_rt() => cited(&body, owner),
+            _ => Vec::new(),
+        };
+        Parts { uses, body, cited }
     }
 }
 
@@ -195,9 +201,25 @@ fn rt_uses(code: &str) -> Vec<Use> {
 /// A name of another file of the repository: that file's path, and the name.
 pub type Reached = (String, String);
 
-/// What a file names of other files: in its `use` lines, and by paths.
+/// The paths of Rust code through a crate's `specs` or `proofs`, as `crate::proofs::A::x` in an attribute.
+fn cited(code: &str, owner: &str) -> Vec<String> {
+    let is_path = |c: char| c.is_alphanumeric() || "_-':".contains(c);
+    let paths = code.split(|c| !is_path(c)).filter(|path| path.contains("::"));
+    let mut found = Vec::new();
+    for path in paths {
+        let segments: Vec<&str> = path.split("::").collect();
+        if let ["specs" | "proofs", ..] = segments[1..] {
+            let library = if segments[0] == "crate" { owner } else { segments[0] };
+            found.push(format!("Rattle.{library}.{}", segments[1..].join(".")));
+        }
+    }
+    found
+}
+
+/// What a file names of other files: in its `use` lines, by paths, and in attributes.
 pub fn reached(parts: &Parts) -> Vec<Reached> {
     let mut paths = dotted(&parts.body);
+    paths.extend(parts.cited.iter().cloned());
     for one in parts.uses.iter().filter(|one| !one.code) {
         let items = one.items.iter();
         paths.extend(items.map(|item| format!("{}.{}", one.path, item.path)));
@@ -232,17 +254,13 @@ fn dotted(body: &str) -> Vec<String> {
     found
 }
 
-/// What `Rattle·crate·specs.specs.A.B.x` may name: `B` or `x` of A.antt, and `x` of A/B.antt.
+/// What `Rattle.crate.specs.A.B.x` may name: `B` or `x` of A.antt, and `x` of A/B.antt.
 fn names_of(path: &str) -> Vec<Reached> {
     let mut segments = path.split('.');
-    let Some(library) = segments
-        .next()
-        .and_then(|name| name.strip_prefix("Rattle·"))
-    else {
+    if segments.next() != Some("Rattle") {
         return Vec::new();
-    };
-    let owner = library.split('·').next().unwrap_or(library);
-    let Some(part) = segments.next() else {
+    }
+    let (Some(owner), Some(part)) = (segments.next(), segments.next()) else {
         return Vec::new();
     };
     let below: Vec<&str> = segments.collect();
@@ -310,10 +328,10 @@ fn o() {}
         let parts = parts(
             "a.antt",
             "\
-use Rattle·a.specs.A.{x}
-use Rattle·b·proofs.proofs.B as C
+use Rattle.a.specs.A.{x}
+use Rattle.b.proofs.B as C
 use C.F.{v}
-f = C.y Rattle·d.specs.D.E.z (s .w)
+f = C.y Rattle.d.specs.D.E.z s.w
 ",
         );
         let found: Vec<String> = reached(&parts)
