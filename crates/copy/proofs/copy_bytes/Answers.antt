@@ -1,5 +1,4 @@
 -- `copy::copy_bytes` meets its contract. Invariant: the bytes passed are copied, the rest is as it was. Measure: the bytes left. Assumes nothing.
-use Prim.Native.Nat.{◌-◌}
 use mathlib.Core.Path.{◌≡◌, ◌∙◌}
 use lib.ListN.{length, length-set}
 use lib.Seq.{take-length}

@@ -3,7 +3,6 @@
 use Prim.Native.Nat.{ℕ, ◌-◌}
 use native.Mathlib.Omega.{arith}
 use mathlib.Core.Path.{◌≡◌, refl, sym, ◌∙◌}
-use mathlib.Core.Bool.{true}
 use mathlib.Core.List.{[], ◌++◌}
 use Rattle.channel.proofs.Stretch.{places_under, behind_places}
 use Rattle.channel.proofs.Readable.{positive}

@@ -1,6 +1,6 @@
 -- `error_table::row_for` meets its contract. Invariant: of the rows left, the first that fits is that of the whole table. Measure: the rows left.
 -- Assumes nothing.
-use Prim.Native.Nat.{◌+◌, ◌-◌}
+use Prim.Native.Nat.{◌+◌}
 use mathlib.Core.Path.{refl, sym, ◌∙◌}
 use Rattle.recovery.specs.Table as Table
 use Rattle.error_table.specs.declared.Matched.TheVariants.{First, Nothing}

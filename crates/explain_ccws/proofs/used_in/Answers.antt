@@ -1,5 +1,4 @@
 -- `explain_ccws::used_in` meets its contract. Invariant: from here on as many are used as in all. Measure: the CCWs left. Assumes nothing.
-use Prim.Native.Nat.{◌-◌}
 use mathlib.Core.Path.{refl, ◌∙◌}
 use Rattle.explain_ccws.specs.Ccws.{used_in}
 use Rattle.explain_ccws.proofs.Lines.{used_here, used_turn, used_all}

@@ -1,6 +1,5 @@
 -- `explain_correction::put_changes` meets its contract. Invariant: the lines that are left, put where the loop stands, make the whole. Measure: the bytes
 -- left. Assumes nothing.
-use Prim.Native.Nat.{◌-◌}
 use Rattle.explain_correction.specs.Correction.{change_lines}
 use Rattle.explain_correction.proofs.Lines.{changes_turn, changes_none}
 use borrow.Author.Rules.{rules}

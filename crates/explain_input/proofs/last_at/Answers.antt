@@ -1,5 +1,4 @@
 -- `explain_input::last_at` meets its contract. Invariant: from here on the extent's field is that of the whole. Measure: the bytes left. Assumes nothing.
-use Prim.Native.Nat.{◌-◌}
 use mathlib.Core.Path.{refl, sym, ◌∙◌}
 use Rattle.fields.proofs.FieldAt.{bounds}
 use Rattle.explain_input.proofs.Walk.{last_past, last_torn, last_here, last_on}

@@ -1,6 +1,5 @@
 -- `faults::find_fault` meets its contract. Invariant: in a list that decodes, the fault is to be found from here on as from the start.
 -- Measure: the bytes left. Assumes nothing.
-use Prim.Native.Nat.{◌-◌}
 use mathlib.Core.Path.{refl, sym, ◌∙◌}
 use Rattle.faults.proofs.Places.{fault_bounds, fault_here, fault_on, fault_missing}
 use native.Mathlib.Omega.{arith}

@@ -1,6 +1,5 @@
 -- `faults::sound_faults` meets its contract. Invariant: in an image that decodes, the list is sound if what is left of it is.
 -- Measure: the bytes left. Assumes nothing.
-use Prim.Native.Nat.{◌-◌}
 use mathlib.Core.Path.{refl, sym, ◌∙◌}
 use Rattle.faults.proofs.Places.{fault_bounds}
 use Rattle.faults.proofs.Sound.{sound_end, sound_none, sound_unsound, sound_again, sound_on}

@@ -1,6 +1,5 @@
 -- `image::records_end` meets its contract. Invariant: the table marks the numbers of the records passed, and the image is sound if what
 -- is left is sound behind them. Measure: the bytes left. Assumes nothing.
-use Prim.Native.Nat.{◌-◌}
 use mathlib.Core.Path.{refl, sym, ◌∙◌}
 use mathlib.Core.List.{[], ◌∷◌}
 use lib.ListN.{length-set}

@@ -1,6 +1,5 @@
 -- `image::well_formed` meets its contract. Invariant: the image is well formed if what is left is, behind the track passed.
 -- Measure: the bytes left. Assumes nothing.
-use Prim.Native.Nat.{◌-◌}
 use mathlib.Core.Path.{refl, sym, ◌∙◌}
 use Rattle.image.specs.Image.{well_formed}
 use Rattle.image.proofs.Pass.{all_sound}

@@ -1,6 +1,5 @@
 -- `pack::find_record` meets its contract. Invariant: where the bytes decode, the number is to be found from here on as from the start.
 -- Measure: the bytes left. Assumes nothing.
-use Prim.Native.Nat.{◌-◌}
 use mathlib.Core.Path.{refl, sym, ◌∙◌}
 use Rattle.pack.proofs.Decode.{record_bounds}
 use Rattle.pack.proofs.Lookup.{record_here, record_on, record_none}

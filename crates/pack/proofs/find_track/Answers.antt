@@ -1,6 +1,5 @@
 -- `pack::find_track` meets its contract. Invariant: in an image that decodes, the track is to be found from here on as from the front.
 -- Measure: the bytes left. Assumes nothing.
-use Prim.Native.Nat.{◌-◌}
 use mathlib.Core.Path.{refl, ap, sym, ◌∙◌}
 use mathlib.Core.List.{[], ◌++◌, append_assoc}
 use Rattle.fields.proofs.FieldAt.{bounds}

@@ -1,5 +1,4 @@
 -- `reading_input::image_at` meets its contract. Invariant: what is left of the walk ends where the whole does. Measure: the bytes left. Assumes nothing.
-use Prim.Native.Nat.{◌-◌}
 use mathlib.Core.Path.{refl, sym, ◌∙◌}
 use Rattle.fields.proofs.FieldAt.{bounds}
 use Rattle.reading_input.proofs.Walk.{image_other, image_end, image_torn, image_on}

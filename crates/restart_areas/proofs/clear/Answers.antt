@@ -1,5 +1,4 @@
 -- `restart_areas::clear` meets its contract. Invariant: the bytes passed are 0, the rest is as it was. Measure: the bytes left. Assumes nothing.
-use Prim.Native.Nat.{◌-◌}
 use mathlib.Core.Path.{◌∙◌}
 use lib.ListN.{length-set}
 use borrow.Author.Fill.{fill_more}

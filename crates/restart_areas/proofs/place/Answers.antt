@@ -1,5 +1,4 @@
 -- `restart_areas::place` meets its contract. Invariant: what is left to be placed makes the same area. Measure: the bytes left. Assumes nothing.
-use Prim.Native.Nat.{◌-◌}
 use native.Mathlib.Nat.{add-zero}
 use mathlib.Core.Path.{◌∙◌}
 use lib.ListN.{length-set}

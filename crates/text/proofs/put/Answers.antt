@@ -1,6 +1,5 @@
 -- `text::put` meets its contract. Invariant: the bytes that are left, put where the loop stands, make the whole. Measure: the bytes left.
 -- Assumes nothing.
-use Prim.Native.Nat.{◌-◌}
 use native.Mathlib.Nat.{add-zero}
 use mathlib.Core.Path.{refl, sym, ◌∙◌}
 use lib.ListN.{length-set}

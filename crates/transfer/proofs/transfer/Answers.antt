@@ -1,9 +1,6 @@
 -- `transfer::transfer` meets its contract. Invariant: what is left of the read at the CCW that it has come to leaves what the whole read leaves.
 -- Measure: the bytes left; each CCW takes at least one. Assumes nothing.
-use Prim.Native.Nat.{◌-◌}
 use mathlib.Core.Path.{refl, sym, ◌∙◌}
-use mathlib.Core.Bool.{true}
-use Rattle.channel.specs.Walk.{readable}
 use Rattle.transfer.specs.Transfer.{transferred}
 use Rattle.channel.proofs.Readable.{positive}
 use Rattle.location.proofs.NextFits.{inside_next}

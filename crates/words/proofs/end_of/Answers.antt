@@ -1,5 +1,4 @@
 -- `words::end_of` meets its contract. Invariant: the text left ends where the whole does. Measure: the bytes left. Assumes nothing.
-use Prim.Native.Nat.{◌-◌}
 use mathlib.Core.Path.{refl, ◌∙◌}
 use Rattle.words.proofs.Items.{ends_turn, ends_here, ends_last}
 use borrow.Author.Rules.{rules}

@@ -1,5 +1,4 @@
 -- `words::item_at` meets its contract. Invariant: what is left of the way leads where the whole does. Measure: the bytes left. Assumes nothing.
-use Prim.Native.Nat.{◌-◌}
 use mathlib.Core.Path.{refl, ◌∙◌}
 use Rattle.words.proofs.Items.{rest_turn, rest_none, rest_end}
 use borrow.Author.Rules.{rules}
