@@ -36,7 +36,12 @@ pub fn check(repository: &Repository) -> Vec<Place> {
                 }
             }
             for item in &one.items {
-                unused(&item.name, item.at);
+                // `use std::io::{self}` brings in `io`.
+                let name = match item.name.as_str() {
+                    "self" => one.path.rsplit("::").next().unwrap_or_default(),
+                    other => other,
+                };
+                unused(name, item.at);
             }
         }
     }
@@ -94,9 +99,10 @@ f = walk_skip s.walk y <≤> \"z\"
 use a::Type;
 use a::Told;
 use b::LIMIT;
+use std::io::{self, Read};
 ghost use C.{p, ◌≤◌};
 ghost use D as E;
-fn f(x: Type)
+fn f<R: Read>(x: Type) -> io::Result<()>
     requires { p x.y ≤ E.z Told }
 { 0..LIMIT }
 ";
