@@ -42,6 +42,7 @@ module _ (p : Lent) (size m : ℕ) where
   behind n q u (walked ps l c left false) (goes_on h may fits e) = goes_on {ps = q ∷ ps} (ap suc h) may fits (ap (behind_place q) e)
   behind n q u (walked ps l c zero true) overran = overran
   behind n q u (checked ps l) stopped = stopped
+  behind n q u (walked ps l c (suc _) true) x5 = elim x5 [ ]
 
   choice : (n : ℕ) (b : Bool) {u v w x : Walk} → Splits n u w → Splits n v x → Splits n (pick b u v) (pick b w x)
   unfolding pick
@@ -83,3 +84,4 @@ module _ (p : Lent) (size m : ℕ) where
       → Cut n u ps l c left over
   cut_there n u ps l c left false h (goes_on long may fits e) = record { none_over = refl; counted = long; may = may; fits = fits; on = e }
   cut_there n u ps l c zero true h overran = absurd (omega arith)
+  cut_there n u ps l c (suc _) true h x4 = elim x4 [ ]
