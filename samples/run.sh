@@ -36,7 +36,7 @@ input "$1" > "$work/bytes" || exit
 cd "$repository"
 prove "$program" || fail 83 "\`$program\` is not proved; what the prover says is in target/log/$program.out"
 
-# The program's own status is 0 even where a read or a write failed; it says so on standard error.
+# The program's own status is 0 even where a read or a write failed; it says so on standard error. Only where it cannot, it is another.
 if ! "crates/$program/out/$program" < "$work/bytes" > "$work/answer" 2> "$work/failure" || [ -s "$work/failure" ]; then
     fail 84 "\`$program\` failed: $(cat "$work/failure")"
 fi

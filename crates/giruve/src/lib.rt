@@ -1,5 +1,5 @@
-// The calls for C and Rust: plain bytes and numbers in, document 01's numbers out. Each stands for a proved call and adds no rule. Those that meet
-// a track address take the pack's model, 1 or 11; another number is refused by 1, with nothing changed.
+// The calls for Rust, and by the crate `giruve_c` for C: plain bytes and numbers in, document 01's numbers out. Each stands for a proved call
+// and adds no rule. Those that meet a track address take the pack's model, 1 or 11; another number is refused by 1, with nothing changed.
 #![tactic(auto)]
 
 ghost use Rattle.std.specs.Prelude.{◌≡◌, length};
