@@ -23,8 +23,8 @@
  * them only read may be shared. A call needs GIRUVE_STACK bytes of stack.
  *
  * Linking. libgiruve.a is for x86-64, as ELF, with the System V calling convention (Linux); red zone and SSE registers are used as that
- * convention has them. It is position independent: it may become part of any program or shared library. It calls memcpy and memmove and memset
- * and no other function from outside, so that a program without a C library need only bring these three.
+ * convention has them. It is position independent: it may become part of any program or shared library. It calls memmove and memset
+ * and no other function from outside, so that a program without a C library need only bring these two.
  *
  * Bytes. A number of several bytes has its highest byte first, and bit 0 of a byte is its highest bit. A number behind the name of a part is its
  * length in bytes.
@@ -131,8 +131,8 @@ enum {
 };
 
 /*
- * Bytes of stack that suffice for any call: its arguments and return address, all frames below them, and memcpy, memmove and memset, even
- * where the dynamic linker first looks for these in the middle of a call. It is measured, with room above it (docs/FIGURES.md of the repository).
+ * Bytes of stack that suffice for any call: its arguments and return address, all frames below them, and memmove and memset, even where the
+ * dynamic linker first looks for these in the middle of a call. It is measured, with room above it (docs/FIGURES.md of the repository).
  * giruve_recover and the checks, without that search, use less than a tenth of it.
  */
 enum {

@@ -73,7 +73,7 @@ done
 
 # ---- stack and threads
 
-# Twice: with the functions that it calls looked for before all calls, and at the first call of each, on the stack that is measured.
+# Twice: with memmove and memset looked for before all calls, and at the first call of each, on the stack that is measured.
 rustc -O --edition 2021 -C relro-level=off -C link-arg=-Wl,-z,lazy tests/stack.rs -L target/staticlib -l static=giruve -o target/stack
 LD_BIND_NOW=1 target/stack "$header" tests/cases || failed=1
 target/stack "$header" tests/cases || failed=1

@@ -58,7 +58,9 @@ fn empty(
     read_end::excepted(transfer::transfer(chain, program, l, c, bytes, storage), e)
 }
 
-// Bytes at the front of `held`, as they arrive with a fault.
+// Bytes at the front of `held`, as they arrive with a fault. Not inlined: into an area of the caller's own the compiler would copy by `memcpy`, which
+// the archive does not call.
+#[inline(never)]
 fn arrive(held: &mut [u8], bytes: &[u8], f: Listed)
     requires bytes_in_bounds { length bytes.now ≤ length held.old }
     requires bytes_len_bound { length bytes.now ≤ 16384 }
