@@ -67,27 +67,42 @@ fn rows(book: &Book) -> Result<Vec<([u8; 3], String)>, String> {
 /// The actions that are not built are all refused alike: only the source tells them apart.
 fn same_as_source(rows: &[([u8; 3], String)]) -> Checked {
     const PATH: &str = "crates/error_table/src/lib.rt";
+    const NAMES: [(&str, &str); 12] = [
+        ("One", "1"),
+        ("Two", "2"),
+        ("Three", "3"),
+        ("Four", "4"),
+        ("Five", "5"),
+        ("Six", "6"),
+        ("SixA", "6A"),
+        ("Seven", "7"),
+        ("Eight", "8"),
+        ("Nine", "9"),
+        ("Ten", "10"),
+        ("Eleven", "11"),
+    ];
     let mut found = Vec::new();
     for line in source(PATH)?.lines() {
-        let Some(row) = line.strip_prefix("    Row(") else {
+        let Some(row) = line.strip_prefix("    row!(") else {
             continue;
         };
-        let numbers: Vec<u8> = row
-            .trim_end_matches("),")
-            .split(", ")
-            .map(|number| match number.strip_prefix("0x") {
-                Some(digits) => hex(digits).map(|value| value as u8),
-                None => self::number(number).map(|value| value as u8),
-            })
-            .collect::<Result<_, _>>()?;
-        let &[first, second, third, action] = &numbers[..] else {
+        let Some((bits, action)) = row.trim_end_matches("),").split_once(" => ") else {
             return Err(format!("{PATH}: '{line}'"));
         };
-        let action = match action {
-            0x16 => "6A".to_string(),
-            _ => action.to_string(),
+        let bits: Vec<u8> = bits
+            .split(", ")
+            .map(|bits| match bits.strip_prefix("0x") {
+                Some(digits) => hex(digits).map(|value| value as u8),
+                None => self::number(bits).map(|value| value as u8),
+            })
+            .collect::<Result<_, _>>()?;
+        let &[first, second, third] = &bits[..] else {
+            return Err(format!("{PATH}: '{line}'"));
         };
-        found.push(([first, second, third], action));
+        let Some((_, action)) = NAMES.iter().find(|(name, _)| *name == action) else {
+            return Err(format!("{PATH}: '{line}'"));
+        };
+        found.push(([first, second, third], action.to_string()));
     }
     ensure!(found == rows, "the rows are not those of {PATH}");
     Ok(())

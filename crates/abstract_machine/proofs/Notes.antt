@@ -1,9 +1,9 @@
 -- What is noted of a run, where one note is made from another.
 --   filtered         the notes that f makes of others, in order
 --   notes_filtered   a run's notes by f are f's of its notes
+use Rattle.std.specs.Prelude.{Option, Some, None}
 use Prim.Native.Nat.{ℕ, zero, suc}
 use mathlib.Core.Path.{◌≡◌, refl}
-use mathlib.Core.Option.{Option, none, some}
 use mathlib.Core.List.{List, [], ◌∷◌}
 use Rattle.base.specs.Choice.{opt}
 use Rattle.abstract_machine.specs.Machine.{Stepped, goes, ends, cuts, notes}
@@ -14,12 +14,12 @@ filtered f (a ∷ rest) = opt (f a) (filtered f rest) (λ h. h ∷ filtered f re
 
 module _ {S E C A H : Type 0} (step : S → Stepped S E C) (note : S → Option A) (flag : S → Option H) (f : A → Option H) where
   -- one note more
-  filtered_more : (o : Option A) (rest : List A) → opt (opt o none f) (filtered f rest) (λ h. h ∷ filtered f rest) ≡ filtered f (opt o rest (λ a. a ∷ rest))
+  filtered_more : (o : Option A) (rest : List A) → opt (opt o None f) (filtered f rest) (λ h. h ∷ filtered f rest) ≡ filtered f (opt o rest (λ a. a ∷ rest))
   unfolding filtered opt
-  filtered_more none rest = refl
-  filtered_more (some a) rest = refl
+  filtered_more None rest = refl
+  filtered_more (Some a) rest = refl
 
-  pub notes_filtered : ((s : S) → flag s ≡ opt (note s) none f) → (n : ℕ) (s : S) → notes step flag n s ≡ filtered f (notes step note n s)
+  pub notes_filtered : ((s : S) → flag s ≡ opt (note s) None f) → (n : ℕ) (s : S) → notes step flag n s ≡ filtered f (notes step note n s)
   unfolding notes filtered
   notes_filtered made zero s = refl
   notes_filtered made (suc n) s = by (notes_filtered made n) (step s) refl

@@ -13,10 +13,10 @@
 --   behind_goes, behind_ends   `ends_behind` by the first command
 --   LastTwo, last-two      the last two commands of a run that ends so
 --   behind_unmarked        it does not ask what came before, if the first command is not marked as last
+use Rattle.std.specs.Prelude.{Option, Some, None}
 use Prim.Native.Nat.{ℕ, zero, suc, ◌-◌, ◌≤◌, ◌<◌}
 use mathlib.Core.Path.{◌≡◌, refl, sym, ◌∙◌}
 use mathlib.Core.Bool.{Bool, true, false, ◌&&◌}
-use mathlib.Core.Option.{Option, none, some}
 use mathlib.Core.List.{[], ◌∷◌}
 use lib.ListN.{length}
 use native.Mathlib.Omega.{arith}
@@ -71,27 +71,27 @@ module _ {S E C L : Type 0} (step : S → Stepped S E C) (shows : S → L) where
 -- ---- notes
 
 module _ {S E C : Type 0} (step : S → Stepped S E C) {T : Type 0} (note : S → Option T) where
-  pub notes_goes_some : (n : ℕ) (s t : S) (x : T) → step s ≡ goes t → note s ≡ some x → notes step note (suc n) s ≡ x ∷ notes step note n t
+  pub notes_goes_some : (n : ℕ) (s t : S) (x : T) → step s ≡ goes t → note s ≡ Some x → notes step note (suc n) s ≡ x ∷ notes step note n t
   unfolding notes opt
   notes_goes_some n s t x h k = rw (h, k, notes)
 
-  pub notes_goes_none : (n : ℕ) (s t : S) → step s ≡ goes t → note s ≡ none → notes step note (suc n) s ≡ notes step note n t
+  pub notes_goes_none : (n : ℕ) (s t : S) → step s ≡ goes t → note s ≡ None → notes step note (suc n) s ≡ notes step note n t
   unfolding notes opt
   notes_goes_none n s t h k = rw (h, k, notes)
 
-  pub notes_ends_some : (n : ℕ) (s : S) (e : E) (x : T) → step s ≡ ends e → note s ≡ some x → notes step note (suc n) s ≡ x ∷ []
+  pub notes_ends_some : (n : ℕ) (s : S) (e : E) (x : T) → step s ≡ ends e → note s ≡ Some x → notes step note (suc n) s ≡ x ∷ []
   unfolding notes opt
   notes_ends_some n s e x h k = rw (h, k, notes)
 
-  pub notes_ends_none : (n : ℕ) (s : S) (e : E) → step s ≡ ends e → note s ≡ none → notes step note (suc n) s ≡ []
+  pub notes_ends_none : (n : ℕ) (s : S) (e : E) → step s ≡ ends e → note s ≡ None → notes step note (suc n) s ≡ []
   unfolding notes opt
   notes_ends_none n s e h k = rw (h, k, notes)
 
-  pub notes_cuts_some : (n : ℕ) (s : S) (c : C) (x : T) → step s ≡ cuts c → note s ≡ some x → notes step note (suc n) s ≡ x ∷ []
+  pub notes_cuts_some : (n : ℕ) (s : S) (c : C) (x : T) → step s ≡ cuts c → note s ≡ Some x → notes step note (suc n) s ≡ x ∷ []
   unfolding notes opt
   notes_cuts_some n s c x h k = rw (h, k, notes)
 
-  pub notes_cuts_none : (n : ℕ) (s : S) (c : C) → step s ≡ cuts c → note s ≡ none → notes step note (suc n) s ≡ []
+  pub notes_cuts_none : (n : ℕ) (s : S) (c : C) → step s ≡ cuts c → note s ≡ None → notes step note (suc n) s ≡ []
   unfolding notes opt
   notes_cuts_none n s c h k = rw (h, k, notes)
 
@@ -101,12 +101,12 @@ module _ {S E C : Type 0} (step : S → Stepped S E C) {T : Type 0} (note : S �
   notes_few (suc n) s = by (notes_few n) (step s) refl (note s) refl
     where
       by : ((t : S) → length (notes step note n t) ≤ n) → (o : Stepped S E C) → step s ≡ o → (m : Option T) → note s ≡ m → length (notes step note (suc n) s) ≤ suc n
-      by few (goes t) q (some x) r = rw (notes_goes_some n s t x q r) (omega (arith, few t))
-      by few (goes t) q none r = rw (notes_goes_none n s t q r) (omega (arith, few t))
-      by few (ends e) q (some x) r = rw (notes_ends_some n s e x q r) (omega arith)
-      by few (ends e) q none r = rw (notes_ends_none n s e q r) (omega arith)
-      by few (cuts c) q (some x) r = rw (notes_cuts_some n s c x q r) (omega arith)
-      by few (cuts c) q none r = rw (notes_cuts_none n s c q r) (omega arith)
+      by few (goes t) q (Some x) r = rw (notes_goes_some n s t x q r) (omega (arith, few t))
+      by few (goes t) q None r = rw (notes_goes_none n s t q r) (omega (arith, few t))
+      by few (ends e) q (Some x) r = rw (notes_ends_some n s e x q r) (omega arith)
+      by few (ends e) q None r = rw (notes_ends_none n s e q r) (omega arith)
+      by few (cuts c) q (Some x) r = rw (notes_cuts_some n s c x q r) (omega arith)
+      by few (cuts c) q None r = rw (notes_cuts_none n s c q r) (omega arith)
 
 -- ---- the last two commands of a run
 

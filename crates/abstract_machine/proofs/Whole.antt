@@ -16,11 +16,11 @@
 --   end_of                    how the reading ends: as the faultless run, or as such a restarted run
 --   ReadsLike                a reading from s ends so, with one recovery for each faulted data area
 --   whole                    it does, if cuts are mended and closed
+use Rattle.std.specs.Prelude.{Option, Some, None}
 use Prim.Native.Nat.{ℕ, zero, suc, ◌+◌, ◌-◌, ◌≤◌, ◌<◌}
 use native.Mathlib.Omega.{arith}
 use mathlib.Core.Path.{◌≡◌, refl, ap, sym, ◌∙◌}
 use mathlib.Core.Bool.{Bool, true, false}
-use mathlib.Core.Option.{Option, none, some}
 use mathlib.Core.List.{List, [], ◌∷◌, ◌++◌, map, append-nil}
 use lib.ListN.{length}
 use lib.Seq.{append_snoc}
@@ -208,17 +208,17 @@ module _ {T R S L E F C X H : Type 0} (faulty : S → Stepped S E C) (shows : S 
     -- a cut in the state s of a chain that goes on at t, and ends with e
     pub data GoesOn (h : H) (s t : S) (e : E) : Bool → Type 0 where
       mended : Mended h s t → GoesOn h s t e false
-      strayed : clean t ≡ ends e → flag t ≡ none → Strayed h s (instead e) → GoesOn h s t e true
+      strayed : clean t ≡ ends e → flag t ≡ None → Strayed h s (instead e) → GoesOn h s t e true
 
     -- the end of the reading from s, where the faultless run of n commands ends with e
     abbrev pub end_of : ℕ → S → E → E
     end_of n s e = pick (ends_behind clean before last false n s) (instead e) e
 
     module _ (P : S → Type 0) (Good : E → Type 0)
-        (plain : (s : S) → P s → flag s ≡ none → faulty s ≡ clean s)
+        (plain : (s : S) → P s → flag s ≡ None → faulty s ≡ clean s)
         (marks : (s : S) → before s ≡ opt (flag s) false (λ h. true))
-        (mends : (h : H) (s t : S) (n : ℕ) (e : E) → P s → flag s ≡ some h → clean s ≡ goes t → run clean shows n t ≡ ended e → Good e → GoesOn h s t e (last t))
-        (closes : (h : H) (s : S) (e : E) → P s → flag s ≡ some h → clean s ≡ ends e → Good e → Closed h s e) where
+        (mends : (h : H) (s t : S) (n : ℕ) (e : E) → P s → flag s ≡ Some h → clean s ≡ goes t → run clean shows n t ≡ ended e → Good e → GoesOn h s t e (last t))
+        (closes : (h : H) (s : S) (e : E) → P s → flag s ≡ Some h → clean s ≡ ends e → Good e → Closed h s e) where
       -- If the faultless run of n commands from s ends with e, the reading whose first run has b commands, with k recoveries allowed, ends so.
       abbrev pub ReadsLike : ℕ → Type 0
       ReadsLike n =
@@ -228,15 +228,15 @@ module _ {T R S L E F C X H : Type 0} (faulty : S → Stepped S E C) (shows : S 
 
       -- ---- the end by the first command
 
-      end_plain : (n : ℕ) (s t : S) (e : E) → clean s ≡ goes t → flag s ≡ none → end_of (suc n) s e ≡ end_of n t e
+      end_plain : (n : ℕ) (s t : S) (e : E) → clean s ≡ goes t → flag s ≡ None → end_of (suc n) s e ≡ end_of n t e
       unfolding opt
       end_plain n s t e q r = rw (behind_goes clean before last false n s t q, marks s, r)
 
-      end_mended : (h : H) (n : ℕ) (s t : S) (e : E) → clean s ≡ goes t → flag s ≡ some h → last t ≡ false → end_of (suc n) s e ≡ end_of n t e
+      end_mended : (h : H) (n : ℕ) (s t : S) (e : E) → clean s ≡ goes t → flag s ≡ Some h → last t ≡ false → end_of (suc n) s e ≡ end_of n t e
       unfolding opt
       end_mended h n s t e q r l = rw (behind_goes clean before last false n s t q, marks s, r, behind_unmarked clean before last true n t l)
 
-      end_strayed : (h : H) (n : ℕ) (s t : S) (e : E) → clean s ≡ goes t → flag s ≡ some h → last t ≡ true → clean t ≡ ends e
+      end_strayed : (h : H) (n : ℕ) (s t : S) (e : E) → clean s ≡ goes t → flag s ≡ Some h → last t ≡ true → clean t ≡ ends e
           → end_of (suc (suc n)) s e ≡ instead e
       unfolding opt pick
       end_strayed h n s t e q r l z = rw (behind_goes clean before last false (suc n) s t q, marks s, r, behind_ends clean before last true n t e z, l)
@@ -247,7 +247,7 @@ module _ {T R S L E F C X H : Type 0} (faulty : S → Stepped S E C) (shows : S 
 
       -- ---- a cut where the chain goes on
 
-      goes_on : (n : ℕ) → ReadsLike n → (h : H) (s t : S) (e : E) → P s → flag s ≡ some h → clean s ≡ goes t → run clean shows n t ≡ ended e → Good e → Along clean P n t
+      goes_on : (n : ℕ) → ReadsLike n → (h : H) (s t : S) (e : E) → P s → flag s ≡ Some h → clean s ≡ goes t → run clean shows n t ≡ ended e → Good e → Along clean P n t
           → suc n + j ≤ m → (b k : ℕ) (g : Log T R) → n ≤ b → length (notes clean flag n t) ≤ k
           → Comes (suc k) g (run faulty shows (suc b) s) (end_of (suc n) s e) (h ∷ notes clean flag n t)
       unfolding run
@@ -273,22 +273,22 @@ module _ {T R S L E F C X H : Type 0} (faulty : S → Stepped S E C) (shows : S 
 
           by : ReadsLike n → (o : Stepped S E C) → clean s ≡ o → (f : Option H) → flag s ≡ f → (k' : ℕ) → k ≡ k'
               → Comes k g (run faulty shows (suc b) s) (end_of (suc n) s e) (notes clean flag (suc n) s)
-          by like (goes t) q none r k' z =
+          by like (goes t) q None r k' z =
               let rest : run clean shows n t ≡ ended e = sym (run_goes clean shows n s t q) ∙ h in
               rw (notes_goes_none clean flag n s t q r, run_goes faulty shows b s t (plain s here r ∙ q), end_plain n s t e q r)
               (like t e rest good (along_goes clean P n s t q along) (omega arith) b k g (omega arith) (omega (arith, ap length (notes_goes_none clean flag n s t q r))))
-          by like (goes t) q (some u) r zero z = absurd (omega (arith, ap length (notes_goes_some clean flag n s t u q r)))
-          by like (goes t) q (some u) r (suc k') z =
+          by like (goes t) q (Some u) r zero z = absurd (omega (arith, ap length (notes_goes_some clean flag n s t u q r)))
+          by like (goes t) q (Some u) r (suc k') z =
               let rest : run clean shows n t ≡ ended e = sym (run_goes clean shows n s t q) ∙ h in
               let some_more : length (notes clean flag n t) ≤ k' = omega (arith, ap length (notes_goes_some clean flag n s t u q r)) in
               rw (z, notes_goes_some clean flag n s t u q r)
               (goes_on n like u s t e here r q rest good (along_goes clean P n s t q along) (omega arith) b k' g (omega arith) some_more)
-          by like (ends x) q none r k' z =
+          by like (ends x) q None r k' z =
               let same : x ≡ e = cc (run_ends clean shows n s x q) in
               rw (notes_ends_none clean flag n s x q r, run_ends faulty shows b s x (plain s here r ∙ q), same, end_here n s e (rw same at q))
               (reads_ended start recover close name Inside k g e)
-          by like (ends x) q (some u) r zero z = absurd (omega (arith, ap length (notes_ends_some clean flag n s x u q r)))
-          by like (ends x) q (some u) r (suc k') z =
+          by like (ends x) q (Some u) r zero z = absurd (omega (arith, ap length (notes_ends_some clean flag n s x u q r)))
+          by like (ends x) q (Some u) r (suc k') z =
               let same : x ≡ e = cc (run_ends clean shows n s x q) in
               rw (z, notes_ends_some clean flag n s x u q r, end_here n s e (rw same at q)) (reads_closed b k' g u s e (closes u s e here r (rw same at q) good))
           by like (cuts c) q f r k' z = let y : ◌≡◌ {A = ℕ} 0 1 = cc (run_cuts clean shows n s c q) in absurd (omega arith)

@@ -1,6 +1,5 @@
 -- Runs and whole readings over an abstract machine that knows nothing of disks: commands, cuts, restarts.
-use Rattle.std.specs.Prelude.{ℕ, zero, suc, Bool, false, ◌&&◌, List, [], ◌∷◌}
-use Rattle.std.proofs.Math.Option.{Option}
+use Rattle.std.specs.Prelude.{ℕ, zero, suc, Bool, false, ◌&&◌, List, [], ◌∷◌, Option}
 use Rattle.base.specs.Choice.{opt}
 
 -- What one command comes to: the chain goes on, it ends, or a faulted data area cuts it.

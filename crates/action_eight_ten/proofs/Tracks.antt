@@ -2,11 +2,11 @@
 --   other_command                the commands that are no seek
 --   head_carried, head_up        the next track
 --   below-front .. stands-there  the CCW 8 below the CSW's address
+use Rattle.std.specs.Prelude.{Some, None}
 use Prim.Native.Nat.{ℕ, ◌+◌, ◌-◌, ◌<◌, ◌≤◌}
 use native.Mathlib.Omega.{arith}
 use mathlib.Core.Path.{◌≡◌, refl, sym, ◌∙◌}
 use mathlib.Core.Bool.{true, false}
-use mathlib.Core.Option.{none, some}
 use mathlib.Core.List.{List, [], ◌∷◌}
 use mathlib.Core.Logic.{inl, inr}
 use types.Run.{OneOf}
@@ -17,7 +17,6 @@ use Rattle.base.proofs.Choice.{pick_true, pick_false}
 use Rattle.address.specs.declared.Address.{Address}
 use Rattle.channel.specs.declared.Ccw.{Ccw}
 use Rattle.channel.specs.declared.Csw.{Csw}
-use Rattle.channel.specs.declared.Slot.TheVariants.{Holds, Past}
 use Rattle.channel.specs.Ccw.{is_tic, fetch_in}
 use Rattle.drive.specs.declared.Command.{Command}
 use Rattle.drive.specs.declared.Command.TheVariants.{NoOperation, Seek, SetMask, SetSector, SearchId, ReadHome, ReadRecord, SearchIdMultitrack, ReadMultitrack, Unlisted}
@@ -66,20 +65,20 @@ module _ (a : Address) where
 -- ---- the interrupted CCW
 
 module _ (chain : List ℕ) (csw : Csw) where
-  pub below_front : csw.address < 8 → Interrupts chain csw Past
+  pub below_front : csw.address < 8 → Interrupts chain csw None
   unfolding Recovery.interrupted
   below_front h = λ rows x r st u. rw u (sym (pick_false _ _ (lt-leb 8 csw.address h)))
 
   module _ (h : 8 ≤ csw.address) where
-    pub none_there : none ≡ fetch_in chain (csw.address - 8) → Interrupts chain csw Past
+    pub none_there : None ≡ fetch_in chain (csw.address - 8) → Interrupts chain csw None
     unfolding Recovery.interrupted opt
     none_there e = λ rows x r st u. rw u (sym (pick_true _ _ (le-leb 8 csw.address h) ∙ rw (← e)))
 
-    module _ (c : Ccw) (e : some c ≡ fetch_in chain (csw.address - 8)) where
-      pub tic_there : is_tic c ≡ true → Interrupts chain csw Past
+    module _ (c : Ccw) (e : Some c ≡ fetch_in chain (csw.address - 8)) where
+      pub tic_there : is_tic c ≡ true → Interrupts chain csw None
       unfolding Recovery.interrupted opt pick
       tic_there f = λ rows x r st u. rw u (sym (pick_true _ _ (le-leb 8 csw.address h) ∙ rw (← e, f)))
 
-      pub stands_there : is_tic c ≡ false → Interrupts chain csw (Holds c)
+      pub stands_there : is_tic c ≡ false → Interrupts chain csw (Some c)
       unfolding Recovery.interrupted opt pick
       stands_there f = λ rows x r st u. rw u (sym (pick_true _ _ (le-leb 8 csw.address h) ∙ rw (← e, f)))

@@ -10,12 +10,12 @@ ghost use Rattle.decision.specs.Decision.{orientation_of, GoesLow};
 ghost use Rattle.action_eight_ten.specs.EightTen.{Acts, Interrupts, Behind, Homes, SeekRestarts, ReachedRestarts};
 
 use address::Address;
-use channel::{Ccw, Csw, Fetched, Location, Slot};
+use channel::{Ccw, Csw, Location};
 use decision::{Decision, RestartPlan};
-use drive::{Command, FileMask};
+use drive::Command;
 use questions::Question;
 use recovered::{Kind, Recovered};
-use report::{Told, User};
+use report::Told;
 use restart::ReadCount;
 
 // Whether a command is a seek.
@@ -55,24 +55,24 @@ pub fn next_track(a: Address) -> Address
 }
 
 // The interrupted CCW, 8 below the CSW's address, if it stands in the chain and is no TIC.
-fn interrupted(chain: &[u8], csw: Csw) -> Slot
+fn interrupted(chain: &[u8], csw: Csw) -> Option<Ccw>
     ensures interrupts { Interrupts chain.now csw result }
     ensures behind { Behind chain.now csw result }
 {
     if csw.address < 8 {
-        return Slot::Past;
+        return None;
     }
-    let Slot::Holds(c) = channel::fetch(chain, &chain[..0], Location::Chain(csw.address - 8)) else {
-        return Slot::Past;
+    let Some(c) = channel::fetch(chain, &chain[..0], Location::Chain(csw.address - 8)) else {
+        return None;
     };
     if c.is_tic() {
-        return Slot::Past;
+        return None;
     }
-    Slot::Holds(c)
+    Some(c)
 }
 
 // The restart at the home address of track a, which goes on with the chain's CCW at `to`.
-fn home(mask: FileMask, a: Address, to: usize, kind: Kind) -> Decision
+fn home(mask: Option<u8>, a: Address, to: usize, kind: Kind) -> Decision
     requires to_bound { to < 65536 }
     requires kind_value { orientation_of kind Omitted ≡ Home }
     ensures homes { Homes mask a to kind result }
@@ -100,17 +100,17 @@ pub fn eight(chain: &[u8], t: Told) -> Decision
     let csw = t.csw;
     let mask = t.mask;
     let user = t.user;
-    let User::Track(a) = user else {
+    let Some(a) = user else {
         return Decision::Answers(Recovered::Refused(Question::Agreement));
     };
-    let Slot::Holds(_) = interrupted(chain, csw) else {
+    let Some(_) = interrupted(chain, csw) else {
         return Decision::Answers(Recovered::Refused(Question::Agreement));
     };
     home(mask, next_cylinder(a), csw.address - 8, Kind::Eight)
 }
 
 // Action 10 for an interrupted seek, the CCW c: the user's track, then the CCW behind the seek.
-fn seek_restart(chain: &[u8], csw: Csw, mask: FileMask, a: Address, c: Ccw) -> Decision
+fn seek_restart(chain: &[u8], csw: Csw, mask: Option<u8>, a: Address, c: Ccw) -> Decision
     requires chain_len_bound { length chain.now ≤ 2048 }
     requires address_bound { csw.address < 16777216 }
     requires le_address { 8 ≤ csw.address }
@@ -122,8 +122,8 @@ fn seek_restart(chain: &[u8], csw: Csw, mask: FileMask, a: Address, c: Ccw) -> D
     }
     let last = Location::Chain(csw.address - 8);
     match channel::resolve(chain, &chain[..0], last, Location::Chain(csw.address)) {
-        Fetched::Broken(_) => Decision::Answers(Recovered::Refused(Question::Agreement)),
-        Fetched::Got(l, d) => match l {
+        Err(_) => Decision::Answers(Recovered::Refused(Question::Agreement)),
+        Ok((l, d)) => match l {
             Location::Restart(_) => Decision::Answers(Recovered::Refused(Question::Agreement)),
             Location::Chain(to) => home(mask, a, to, Kind::Ten),
         },
@@ -131,7 +131,7 @@ fn seek_restart(chain: &[u8], csw: Csw, mask: FileMask, a: Address, c: Ccw) -> D
 }
 
 // Action 10A: the track behind the head reached, on the user's cylinder, and the interrupted CCW again.
-fn reached_restart(csw: Csw, mask: FileMask, a: Address, head: usize) -> Decision
+fn reached_restart(csw: Csw, mask: Option<u8>, a: Address, head: usize) -> Decision
     requires le_address { 8 ≤ csw.address }
     requires address_bound { csw.address ≤ 2048 }
     requires cylinder_bound { a.cylinder < 65536 }
@@ -159,13 +159,13 @@ pub fn ten(chain: &[u8], t: Told) -> Decision
     let mask = t.mask;
     let sense = t.sense;
     let user = t.user;
-    let User::Track(a) = user else {
+    let Some(a) = user else {
         return Decision::Answers(Recovered::Refused(Question::Agreement));
     };
-    let Slot::Holds(c) = interrupted(chain, csw) else {
+    let Some(c) = interrupted(chain, csw) else {
         return Decision::Answers(Recovered::Refused(Question::Agreement));
     };
-    if is_seek(drive::command_of(c.command)) {
+    if is_seek(Command::from(c.command)) {
         return seek_restart(chain, csw, mask, a, c);
     }
     reached_restart(csw, mask, a, sense.head)

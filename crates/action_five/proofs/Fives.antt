@@ -2,11 +2,11 @@
 --   unreadable .. retrace-ended      the data chain retraced
 --   ended_inside                     the CCW that it ended with stands in the chain
 --   wrong-format .. goes_over        the report and its first CCW
+use Rattle.std.specs.Prelude.{Option, Some, None}
 use Prim.Native.Nat.{ℕ, ◌-◌}
 use native.Mathlib.Omega.{arith}
 use mathlib.Core.Path.{◌≡◌, refl, ap, ap₂, sym, subst, ◌∙◌}
 use mathlib.Core.Bool.{Bool, true, false, ◌&&◌}
-use mathlib.Core.Option.{none, some}
 use mathlib.Core.List.{List, []}
 use lib.Dec.{eqb}
 use lib.ListN.{length, get_or}
@@ -32,8 +32,6 @@ use Rattle.recovery.specs.Recovery.{only_chain, reads_data}
 use Rattle.report.specs.declared.Told.{Told}
 use Rattle.report.specs.Told.{Tells}
 use Rattle.correction.specs.declared.End.{End}
-use Rattle.correction.specs.declared.Retraced.{Retraced}
-use Rattle.correction.specs.declared.Retraced.TheVariants.{Ended, Checked}
 use Rattle.correction.specs.Retraced.{three_stayed_of, retraced, Retraces}
 use Rattle.recovered.specs.declared.Recovered.TheVariants.{Refused}
 use Rattle.recovered.specs.Applied.{applied, given_of}
@@ -46,24 +44,24 @@ use Rattle.action_five.specs.Five.{WalkedTo, DecidesRetraced}
 
 -- ---- the data chain retraced
 
-other_end : {P : Type 0} {e : End} → ◌≡◌ {A = Retraced} (Ended e) Checked → P
+other_end : {P : Type 0} {e : End} → ◌≡◌ {A = Option End} (Some e) None → P
 other_end e = let z : ◌≡◌ {A = ℕ} 0 1 = cc in absurd (omega arith)
 
 -- what an end leads to
-abbrev Ending : (chain : List ℕ) → Told → Decision → Retraced → Type 0
-Ending chain t o (Ended e) = WalkedTo chain t e o
-Ending chain t o Checked = ⊥
+abbrev Ending : (chain : List ℕ) → Told → Decision → Option End → Type 0
+Ending chain t o (Some e) = WalkedTo chain t e o
+Ending chain t o None = ⊥
 
-abbrev EndInside : List ℕ → Retraced → Type 0
-EndInside chain (Ended e) = Inside chain [] e.at
-EndInside chain Checked = Unit {0}
+abbrev EndInside : List ℕ → Option End → Type 0
+EndInside chain (Some e) = Inside chain [] e.at
+EndInside chain None = Unit {0}
 
 shown_inside : (chain : List ℕ) (k : ℕ) (w : Walk) → WalkShown (Inside chain []) w → EndInside chain (retraced k w)
 unfolding retraced
 shown_inside chain k (walked ps l c left over) h = h
 shown_inside chain k (checked ps l) h = tt
 
-by_checked : (k : ℕ) (l : Location) → retraced k (checked [] l) ≡ Checked
+by_checked : (k : ℕ) (l : Location) → retraced k (checked [] l) ≡ None
 unfolding retraced
 by_checked k l = refl
 
@@ -83,7 +81,7 @@ module _ (chain : List ℕ) (size : ℕ) (t : Told) (c : Ccw) where
     from_is : Recovery.pattern_from r.sense ≡ from
     from_is = ap₂ (λ u v. u - v) h.sense.restart h.sense.error
 
-    checked_there : (w : Walk) → retraced from w ≡ Checked
+    checked_there : (w : Walk) → retraced from w ≡ None
         → done (bounded x (Answers (Refused Question.Agreement))) st p a ≡ applied (Recovery.walked_to (given_of rows chain x) r st w) st p a
     unfolding retraced Recovery.walked_to
     checked_there (checked ps l) e = refusal_is Question.Agreement x st p a
@@ -110,15 +108,15 @@ module _ (chain : List ℕ) (size : ℕ) (t : Told) (c : Ccw) where
       k rows x r st p a h n
       ∙ sym (ap (λ w. applied (Recovery.walked_to (given_of rows chain x) r st w) st p a) (walks rows x r st p a h n ∙ pick_true _ _ g))
 
-  module _ (g : readable size c ≡ true) (b : Retraced) (f : Retraces chain size (Chain t.first) c t.sense.restart.0 from b) where
+  module _ (g : readable size c ≡ true) (b : Option End) (f : Retraces chain size (Chain t.first) c t.sense.restart.0 from b) where
     is_retraced : b ≡ retraced from whole
     unfolding only_chain
     is_retraced = f (only_chain chain) refl refl
 
-    pub retrace_checked : b ≡ Checked → DecidesRetraced chain size t c (Answers (Refused Question.Agreement))
+    pub retrace_checked : b ≡ None → DecidesRetraced chain size t c (Answers (Refused Question.Agreement))
     retrace_checked e = by_walk _ g (λ rows x r st p a h n. checked_there rows x r st p a h n whole (sym is_retraced ∙ e))
 
-    module _ (e : End) (i : b ≡ Ended e) where
+    module _ (e : End) (i : b ≡ Some e) where
       pub retrace_ended : (o : Decision) → WalkedTo chain t e o → DecidesRetraced chain size t c o
       retrace_ended o k =
           by_walk o g
@@ -145,13 +143,13 @@ module _ (chain : List ℕ) (size : ℕ) (t : Told) where
     format_is : {last : ℕ} (r : Report) → Tells last r t → eqb (get_or r.sense 7 0) 0x53 ≡ true
     format_is r h = eq-eqb (get_or r.sense 7 0) 0x53 (h.sense.format ∙ f)
 
-    pub no_ccw : none ≡ fetch_in chain t.first → Decides Recovery.action_five chain size t (Answers (Refused Question.Agreement))
+    pub no_ccw : None ≡ fetch_in chain t.first → Decides Recovery.action_five chain size t (Answers (Refused Question.Agreement))
     unfolding Recovery.action_five
     no_ccw e = λ rows x r st p a h n.
         refusal_is Question.Agreement x st p a
         ∙ sym (ap (λ q. applied q st p a) (pick_true _ _ (format_is r h) ∙ opt_none (fetch_in chain r.first) _ _ (e ∙ ap (fetch_in chain) (sym h.first))))
 
-    module _ (c : Ccw) (e : some c ≡ fetch_in chain t.first) where
+    module _ (c : Ccw) (e : Some c ≡ fetch_in chain t.first) where
       by_ccw : (o : Decision)
           → ((rows : List Row) (x : Extent) (r : Report) (st p a : List ℕ) → Tells (last_of x.model) r t → length st ≡ size
           → done (bounded x o) st p a

@@ -4,11 +4,11 @@
 --   next-broken .. next-chain      by the CCW that comes next
 --   fetches .. goes_on             by the mask, then by whether the chain ends there
 --   disagrees, agrees_on           by whether the CSW agrees
+use Rattle.std.specs.Prelude.{Option, Ok, Err}
 use Prim.Native.Nat.{ℕ}
 use native.Mathlib.Omega.{arith}
 use mathlib.Core.Path.{◌≡◌, refl, ap, ap₂, sym, ◌∙◌}
 use mathlib.Core.Bool.{Bool, true, false, ◌||◌, not}
-use mathlib.Core.Option.{Option}
 use mathlib.Core.List.{List}
 use lib.ListN.{get_or}
 use Rattle.base.specs.Choice.{pick}
@@ -21,10 +21,8 @@ use Rattle.channel.specs.declared.Ccw.{Ccw}
 use Rattle.channel.specs.declared.Csw.{Csw}
 use Rattle.channel.specs.declared.Location.{Location}
 use Rattle.channel.specs.declared.Location.TheVariants.{Chain, Restart}
-use Rattle.channel.specs.declared.Fetched.TheVariants.{Got, Broken}
 use Rattle.channel.specs.Ccw.{chains_command, next, resolve}
 use Rattle.channel.specs.Walk.{incorrect_length}
-use Rattle.drive.specs.declared.FileMask.{FileMask}
 use Rattle.drive.specs.Step.{spread}
 use Rattle.restart.specs.declared.ReadCount.{ReadCount}
 use Rattle.restart.specs.Restart.{count_for, search_program, search_arguments}
@@ -62,7 +60,7 @@ correction_is s st t stayed ps h k =
 -- ---- a restart
 
 -- by bit 3 of the command that it goes on with
-by_bit : (b : Bool) (n : ReadCount) (track : Address) (m : FileMask) (to sector number : ℕ) (s st p a : List ℕ)
+by_bit : (b : Bool) (n : ReadCount) (track : Address) (m : Option ℕ) (to sector number : ℕ) (s st p a : List ℕ)
     → with (Recovered.Restart (pick b Five FiveA)) s (program_by (orientation_of (pick b Five FiveA) n) m to) (arguments_by (orientation_of (pick b Five FiveA) n) track m sector number)
     ≡ applied (Recovery.restarts (pick b Recovery.five Recovery.five_a) (search_program m n to) (search_arguments track m sector number) s) st p a
 unfolding pick program_by arguments_by applied
@@ -89,16 +87,16 @@ search_restarts t stayed to d k n c f g e = λ chain rows x r st p a ps h q.
 -- ---- the CCW that comes next
 
 module _ (chain : List ℕ) (t : Told) (stayed : ThreeStayed) (l : Location) where
-  pub next_broken : (y : Location) → Broken y ≡ resolve (only_chain chain) l (next l) → GoesOn chain t stayed l (Answers (Recovered.Refused Question.Agreement))
+  pub next_broken : (y : Location) → Err y ≡ resolve (only_chain chain) l (next l) → GoesOn chain t stayed l (Answers (Recovered.Refused Question.Agreement))
   unfolding on_next
   next_broken y e = λ rows x r st p a ps h k. rw (← e) (refusal_is Question.Agreement x st p a)
 
-  pub next_restart : (b : ℕ) (d : Ccw) → Got (Restart b) d ≡ resolve (only_chain chain) l (next l)
+  pub next_restart : (b : ℕ) (d : Ccw) → Ok (Restart b, d) ≡ resolve (only_chain chain) l (next l)
       → GoesOn chain t stayed l (Answers (Recovered.Refused Question.Agreement))
   unfolding on_next
   next_restart b d e = λ rows x r st p a ps h k. rw (← e) (refusal_is Question.Agreement x st p a)
 
-  pub next_chain : (to : ℕ) (d : Ccw) (o : Decision) → Got (Chain to) d ≡ resolve (only_chain chain) l (next l) → SearchRestarts t stayed to d o
+  pub next_chain : (to : ℕ) (d : Ccw) (o : Decision) → Ok (Chain to, d) ≡ resolve (only_chain chain) l (next l) → SearchRestarts t stayed to d o
       → GoesOn chain t stayed l o
   unfolding on_next
   next_chain to d o e f = λ rows x r st p a ps h k. rw (← e) (f chain rows x r st p a ps h k)

@@ -1,6 +1,5 @@
 -- What action 5 decides, part by part.
-use Rattle.std.specs.Prelude.{ℕ, ◌≤◌, ◌≡◌, Bool, List, length}
-use Rattle.std.proofs.Math.Option.{Option}
+use Rattle.std.specs.Prelude.{ℕ, ◌≤◌, ◌≡◌, Bool, List, length, Option}
 use Rattle.base.specs.Choice.{pick}
 use Rattle.base.specs.Bits.{bit_on}
 use Rattle.questions.specs.declared.Question.TheVariants as Question

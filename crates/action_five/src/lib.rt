@@ -11,9 +11,10 @@ ghost use Rattle.decision.specs.Decision.{Decides, GoesLow};
 ghost use Rattle.recovered.specs.Sensible.{InBounds};
 ghost use Rattle.action_five.specs.Five.{correction_of, search_kind, SearchRestarts, GoesOn, AfterWalk, WalkedTo, DecidesRetraced};
 
-use channel::{Ccw, Fetched, Location, Slot};
-use correction::{Correction, End, Retraced, ThreeStayed};
+use channel::{Ccw, Location};
+use correction::{Correction, End, ThreeStayed};
 use decision::{Decision, RestartPlan};
+use drive::Command;
 use questions::Question;
 use recovered::{Kind, Recovered};
 use report::{Sense, Told};
@@ -85,8 +86,8 @@ fn go_on(chain: &[u8], t: Told, stayed: ThreeStayed, l: Location) -> Decision
     ensures goes_low { GoesLow result }
 {
     match channel::resolve(chain, &chain[..0], l, location::next(l)) {
-        Fetched::Broken(_) => Decision::Answers(Recovered::Refused(Question::Agreement)),
-        Fetched::Got(to, d) => match to {
+        Err(_) => Decision::Answers(Recovered::Refused(Question::Agreement)),
+        Ok((to, d)) => match to {
             Location::Restart(_) => Decision::Answers(Recovered::Refused(Question::Agreement)),
             Location::Chain(a) => search_restart(t, stayed, a, d),
         },
@@ -162,8 +163,8 @@ fn retraced(chain: &[u8], size: usize, t: Told, c: Ccw) -> Decision
     let error = s.error;
     let k = error.from_front(restart).0;
     match correction::retrace(chain, size, Location::Chain(t.first), c, restart.0, k) {
-        Retraced::Checked => Decision::Answers(Recovered::Refused(Question::Agreement)),
-        Retraced::Ended(e) => walked_to(chain, t, e),
+        None => Decision::Answers(Recovered::Refused(Question::Agreement)),
+        Some(e) => walked_to(chain, t, e),
     }
 }
 
@@ -177,10 +178,10 @@ pub fn five(chain: &[u8], size: usize, t: Told) -> Decision
     if s.format != 0x53 {
         return Decision::Answers(Recovered::Refused(Question::Format));
     }
-    let Slot::Holds(c) = channel::fetch(chain, &chain[..0], Location::Chain(t.first)) else {
+    let Some(c) = channel::fetch(chain, &chain[..0], Location::Chain(t.first)) else {
         return Decision::Answers(Recovered::Refused(Question::Agreement));
     };
-    if !recovered::reads_data(drive::command_of(c.command)) {
+    if !recovered::reads_data(Command::from(c.command)) {
         return Decision::Answers(Recovered::Refused(Question::Agreement));
     }
     if !recovered::sensible(s) {

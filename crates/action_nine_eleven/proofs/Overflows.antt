@@ -3,11 +3,11 @@
 --   walk-checked .. walk-agrees      by how the walk ended
 --   no-ccw .. walks                  by the read's first CCW
 --   nine-no-track .. eleven-goes     by the user's track and the head reached
+use Rattle.std.specs.Prelude.{Option, Some, None}
 use Prim.Native.Nat.{ℕ, ◌+◌, ◌<◌, ◌≤◌}
 use native.Mathlib.Omega.{arith}
 use mathlib.Core.Path.{◌≡◌, refl, ap, sym, subst, ◌∙◌}
 use mathlib.Core.Bool.{true, false, ◌&&◌, not}
-use mathlib.Core.Option.{none, some}
 use mathlib.Core.List.{List}
 use lib.Dec.{eqb}
 use lib.ListN.{length}
@@ -24,13 +24,11 @@ use Rattle.channel.specs.declared.Location.{Location}
 use Rattle.channel.specs.declared.Location.TheVariants.{Chain}
 use Rattle.channel.specs.Ccw.{address_of, fetch_in}
 use Rattle.channel.specs.Walk.{Walk, walked, checked, walk, readable}
-use Rattle.drive.specs.declared.FileMask.{FileMask}
 use Rattle.drive.specs.Command.{command_of}
 use Rattle.recovery.specs.Table.{Row}
 use Rattle.recovery.specs.Report.{Report}
 use Rattle.recovery.specs.Recovery as Recovery
 use Rattle.recovery.specs.Recovery.{only_chain, reads_data, next_cylinder, next_track}
-use Rattle.report.specs.declared.User.TheVariants.{Track, Missing}
 use Rattle.report.specs.declared.Told.{Told}
 use Rattle.report.specs.Told.{Tells}
 use Rattle.recovered.specs.declared.Kind.{Kind}
@@ -42,8 +40,6 @@ use Rattle.decision.specs.declared.Decision.TheVariants.{Answers}
 use Rattle.decision.specs.Decision.{done, bounded, Decides}
 use Rattle.overflow_restart.specs.declared.WalkEnd.{WalkEnd}
 use Rattle.overflow_restart.specs.Restart.{DecidesKind, GoesFrom}
-use Rattle.action_nine_eleven.specs.declared.Walked.{Walked}
-use Rattle.action_nine_eleven.specs.declared.Walked.TheVariants.{Ended, Checked}
 use Rattle.action_nine_eleven.specs.NineEleven.{end_of, WalksTo, WalkedTo, Overflows}
 
 -- the answer where report and chain do not agree
@@ -75,24 +71,24 @@ left_is w l left h =
 -- ---- how the walk ended
 
 -- what holds of an end, and nothing of a program check
-abbrev At : (Location → Ccw → ℕ → Type 0) → Walked → Type 0
-At P (Ended v) = P v.at v.ccw v.left
-At P Checked = ⊥
+abbrev At : (Location → Ccw → ℕ → Type 0) → Option WalkEnd → Type 0
+At P (Some v) = P v.at v.ccw v.left
+At P None = ⊥
 
-other_end : {P : Type 0} {v : WalkEnd} → ◌≡◌ {A = Walked} (Ended v) Checked → P
+other_end : {P : Type 0} {v : WalkEnd} → ◌≡◌ {A = Option WalkEnd} (Some v) None → P
 other_end e = let z : ◌≡◌ {A = ℕ} 0 1 = cc in absurd (omega arith)
 
-module _ (chain : List ℕ) (csw : Csw) (mask : FileMask) (track : Address) (kind : Kind) where
+module _ (chain : List ℕ) (csw : Csw) (mask : Option ℕ) (track : Address) (kind : Kind) where
   -- what comes of a walk
   abbrev Goes : Walk → Decision → Type 0
   Goes w d = DecidesKind (λ k g r st. Recovery.overflow_walk g r st k track w) chain (λ v. v ≡ csw) mask kind d
 
-  by_check : (w : Walk) → end_of w ≡ Checked → Goes w refusal
+  by_check : (w : Walk) → end_of w ≡ None → Goes w refusal
   unfolding end_of Recovery.overflow_walk applied done bounded
   by_check (checked ps l) f = λ k rows x r st p a i shown m. refl
   by_check (walked ps l c left over) f = other_end f
 
-  pub walk_checked : (e : Walked) → e ≡ Checked → WalkedTo chain csw mask track kind e refusal
+  pub walk_checked : (e : Option WalkEnd) → e ≡ None → WalkedTo chain csw mask track kind e refusal
   walk_checked e q = λ w f. by_check w (sym f ∙ q)
 
   -- the test of the CSW, and what follows
@@ -106,10 +102,10 @@ module _ (chain : List ℕ) (csw : Csw) (mask : FileMask) (track : Address) (kin
   by_test d (walked ps l c left over) h = h
   by_test d (checked ps l) h = absurd h
 
-  by_end : (d : Decision) (e : Walked) → At (Tested d) e → WalkedTo chain csw mask track kind e d
+  by_end : (d : Decision) (e : Option WalkEnd) → At (Tested d) e → WalkedTo chain csw mask track kind e d
   by_end d e h = λ w f. by_test d w (subst (At (Tested d)) f h)
 
-  module _ (e : Walked) (v : WalkEnd) (q : e ≡ Ended v) where
+  module _ (e : Option WalkEnd) (v : WalkEnd) (q : e ≡ Some v) where
     pub walk_disagrees : Recovery.cut_inside csw v.at v.left ≡ false → WalkedTo chain csw mask track kind e refusal
     unfolding applied done bounded
     walk_disagrees h =
@@ -128,11 +124,11 @@ module _ (chain : List ℕ) (csw : Csw) (mask : FileMask) (track : Address) (kin
 -- ---- the read's first CCW
 
 module _ (chain : List ℕ) (size : ℕ) (t : Told) (track : Address) (kind : Kind) where
-  pub no_ccw : none ≡ fetch_in chain t.first → Overflows chain size t track kind refusal
+  pub no_ccw : None ≡ fetch_in chain t.first → Overflows chain size t track kind refusal
   unfolding Recovery.overflow_at Recovery.overflow_read opt applied done bounded
   no_ccw e = λ k rows x r st p a i told n. rw (told.first, ← e)
 
-  module _ (c : Ccw) (e : some c ≡ fetch_in chain t.first) where
+  module _ (c : Ccw) (e : Some c ≡ fetch_in chain t.first) where
     pub not_data : reads_data (command_of c.command) ≡ false → Overflows chain size t track kind refusal
     unfolding Recovery.overflow_at Recovery.overflow_read pick opt applied done bounded
     not_data g = λ k rows x r st p a i told n. rw (told.first, ← e, g)
@@ -147,7 +143,7 @@ module _ (chain : List ℕ) (size : ℕ) (t : Told) (track : Address) (kind : Ki
         unfolding Recovery.overflow_at Recovery.overflow_read Recovery.retrace Recovery.overflow_walk pick opt applied done bounded
         unreadable h = λ k rows x r st p a i told n. rw (told.first, ← e, g, told.sense.byte3, eq-eqb t.sense.byte3 0x06 f, n, h)
 
-        read_is : (rows : List Row) (x : Extent) (r : Report) (st : List ℕ) → Tells (last_of x.model) r t → some c ≡ Recovery.overflow_read (given_of rows chain x) r st
+        read_is : (rows : List Row) (x : Extent) (r : Report) (st : List ℕ) → Tells (last_of x.model) r t → Some c ≡ Recovery.overflow_read (given_of rows chain x) r st
         unfolding Recovery.overflow_read pick opt
         read_is rows x r st told = rw (told.first, ← e, g, told.sense.byte3, eq-eqb t.sense.byte3 0x06 f)
 
@@ -159,7 +155,7 @@ module _ (chain : List ℕ) (size : ℕ) (t : Told) (track : Address) (kind : Ki
         unfolding Recovery.retrace
         walk_is h rows x r st told n = rw (n, told.first, told.sense.restart) (pick_true _ _ h)
 
-        pub walks : (v : Walked) (d : Decision) → readable size c ≡ true → WalksTo chain size (Chain t.first) c t.sense.restart.0 v
+        pub walks : (v : Option WalkEnd) (d : Decision) → readable size c ≡ true → WalksTo chain size (Chain t.first) c t.sense.restart.0 v
             → WalkedTo chain t.csw t.mask track kind v d → Overflows chain size t track kind d
         unfolding Recovery.overflow_at only_chain
         walks v d h w q = λ k rows x r st p a i told n.
@@ -169,15 +165,15 @@ module _ (chain : List ℕ) (size : ℕ) (t : Told) (track : Address) (kind : Ki
 -- ---- the actions
 
 module _ (chain : List ℕ) (size : ℕ) (t : Told) where
-  pub nine_no_track : t.user ≡ Missing → Decides Recovery.action_nine chain size t refusal
+  pub nine_no_track : t.user ≡ None → Decides Recovery.action_nine chain size t refusal
   unfolding Recovery.action_nine Recovery.overflow opt applied done bounded
   nine_no_track e = λ rows x r st p a told n. rw (told.user, e)
 
-  pub eleven_no_track : t.user ≡ Missing → Decides Recovery.action_eleven chain size t refusal
+  pub eleven_no_track : t.user ≡ None → Decides Recovery.action_eleven chain size t refusal
   unfolding Recovery.action_eleven Recovery.overflow opt applied done bounded
   eleven_no_track e = λ rows x r st p a told n. rw (told.user, e)
 
-  module _ (user : Address) (e : t.user ≡ Track user) where
+  module _ (user : Address) (e : t.user ≡ Some user) where
     pub nine_goes : (track : Address) (d : Decision) → track ≡ next_cylinder user → Overflows chain size t track Nine d → Decides Recovery.action_nine chain size t d
     unfolding Recovery.action_nine Recovery.overflow opt
     nine_goes track d m q = λ rows x r st p a told n. rw (told.user, e, ← m) (q Recovery.nine rows x r st p a refl told n)

@@ -3,11 +3,11 @@
 --   end_broken     behind it, where no usable CCW comes next
 --   end_on         where the next one leads to
 --   more_usable    a CCW that a read may use with less storage
+use Rattle.std.specs.Prelude.{Option, Some, None, Result, Ok, Err}
 use Prim.Native.Nat.{ℕ, ◌+◌, ◌-◌, ◌<◌, ◌≤◌}
 use native.Mathlib.Omega.{arith}
 use mathlib.Core.Path.{◌≡◌, refl, ap, sym, ◌∙◌}
 use mathlib.Core.Bool.{true, false, ◌||◌, not}
-use mathlib.Core.Option.{Option}
 use mathlib.Core.List.{List, [], ◌∷◌}
 use lib.Dec.{ltb, leb}
 use borrow.Author.Tests.{ltb-true, ltb-false, leb-true, le-leb, not-true}
@@ -15,16 +15,13 @@ use Rattle.base.specs.Choice.{pick}
 use Rattle.base.proofs.Choice.{split, pick_true, pick_false, and_left, and_right}
 use Rattle.channel.specs.declared.Ccw.{Ccw}
 use Rattle.channel.specs.declared.Location.{Location}
-use Rattle.channel.specs.declared.Fetched.{Fetched}
-use Rattle.channel.specs.declared.Fetched.TheVariants.{Got, Broken}
 use Rattle.channel.specs.Ccw.{Lent, chains_data, skips, formed, storage_inside, next, resolve}
 use Rattle.channel.specs.Walk.{Walk, walked, checked, behind_place, chained, walk, readable}
 use Rattle.channel.proofs.Stretch.{behind_places, walk_short, walk_out, walk_chained}
 use Rattle.correction.specs.Retraced.{usable}
 use Rattle.correction.proofs.Retracing.{count_fits, chains_on, chained_usable}
-use Rattle.action_nine_eleven.specs.declared.Walked.{Walked}
-use Rattle.action_nine_eleven.specs.declared.Walked.TheVariants.{Ended, Checked}
 use Rattle.action_nine_eleven.specs.NineEleven.{end_of}
+use Rattle.overflow_restart.specs.declared.WalkEnd.{WalkEnd}
 
 -- ---- the places in front do not matter
 
@@ -44,8 +41,8 @@ module _ (p : Lent) (size more : ℕ) (l : Location) (c : Ccw) where
   abbrev here : Walk
   here = walk p size more l c c.count c.address
 
-  abbrev ended : ℕ → Walked
-  ended left = Ended (record { at = l; ccw = c; left = left })
+  abbrev ended : ℕ → Option WalkEnd
+  ended left = Some (record { at = l; ccw = c; left = left })
 
   end_short : more < c.count → ended (c.count - more) ≡ end_of here
   unfolding end_of
@@ -61,24 +58,24 @@ module _ (p : Lent) (size more : ℕ) (l : Location) (c : Ccw) where
       split (ltb more c.count)
       (λ h. ap (λ m. ended (c.count - m)) (e ∙ pick_true _ _ h) ∙ end_short (ltb-true _ _ h))
       (λ h.
-      let none : c.count - c.count ≡ 0 = omega arith in
-      ap (λ m. ended (c.count - m)) (e ∙ pick_false _ _ h) ∙ ap ended none ∙ end_out (ltb-false _ _ h) (not-true _ (rw h at d)))
+      let None : c.count - c.count ≡ 0 = omega arith in
+      ap (λ m. ended (c.count - m)) (e ∙ pick_false _ _ h) ∙ ap ended None ∙ end_out (ltb-false _ _ h) (not-true _ (rw h at d)))
 
-  module _ (some : 0 < c.count) (d : (ltb more c.count || not (chains_data c)) ≡ false) where
-    abbrev behind : Fetched → Walked
+  module _ (Some : 0 < c.count) (d : (ltb more c.count || not (chains_data c)) ≡ false) where
+    abbrev behind : Result (Location × Ccw) Location → Option WalkEnd
     behind f = end_of (chained (walk p size (more - c.count)) size f)
 
     end_behind_it : behind (usable size (resolve p l (next l))) ≡ end_of here
     end_behind_it =
         ap end_of (chained_usable (walk p size (more - c.count)) size (resolve p l (next l)))
         ∙ sym (end_behind _ _)
-        ∙ ap end_of (sym (walk_chained p size more l c c.count c.address some (count_fits c more d) (chains_on c more d)))
+        ∙ ap end_of (sym (walk_chained p size more l c c.count c.address Some (count_fits c more d) (chains_on c more d)))
 
-    pub end_broken : (x : Location) → Broken x ≡ usable size (resolve p l (next l)) → Checked ≡ end_of here
+    pub end_broken : (x : Location) → Err x ≡ usable size (resolve p l (next l)) → None ≡ end_of here
     unfolding chained end_of
     end_broken x q = ap behind q ∙ end_behind_it
 
-    pub end_on : (x : Location) (b : Ccw) → Got x b ≡ usable size (resolve p l (next l)) → readable size b ≡ true
+    pub end_on : (x : Location) (b : Ccw) → Ok (x, b) ≡ usable size (resolve p l (next l)) → readable size b ≡ true
         → end_of (walk p size (more - c.count) x b b.count b.address) ≡ end_of here
     unfolding chained
     end_on x b q g = sym (ap end_of (pick_true _ _ g)) ∙ ap behind q ∙ end_behind_it

@@ -11,23 +11,16 @@ ghost use Rattle.decision.specs.Decision.{Decides, GoesLow};
 ghost use Rattle.action_nine_eleven.specs.NineEleven.{WalksTo, EndUsable, WalkedTo, Overflows};
 
 use address::Address;
-use channel::{Ccw, Csw, Fetched, Location, Slot};
+use channel::{Ccw, Csw, Location};
 use decision::Decision;
-use drive::FileMask;
+use drive::Command;
 use overflow_restart::WalkEnd;
 use questions::Question;
 use recovered::{Kind, Recovered};
-use report::{Told, User};
-
-// How the data chain ended, or a program check.
-#[derive(Clone, Copy)]
-pub enum Walked {
-    Ended(WalkEnd),
-    Checked,
-}
+use report::Told;
 
 // A read of n bytes whose first CCW, which a read may use with storage of `size` bytes, is c at l.
-fn walk_end(chain: &[u8], size: usize, l: Location, c: Ccw, n: usize) -> Walked
+fn walk_end(chain: &[u8], size: usize, l: Location, c: Ccw, n: usize) -> Option<WalkEnd>
     requires inside { Inside chain.now [] l }
     requires in_bytes { InBytes c }
     requires c_value { readable size c ≡ true }
@@ -40,7 +33,7 @@ fn walk_end(chain: &[u8], size: usize, l: Location, c: Ccw, n: usize) -> Walked
     let mut more = n;
     loop {
         if correction::last_of(word, more) {
-            return Walked::Ended(WalkEnd {
+            return Some(WalkEnd {
                 at: here,
                 ccw: word,
                 left: word.count - correction::lesser(more, word.count),
@@ -48,10 +41,10 @@ fn walk_end(chain: &[u8], size: usize, l: Location, c: Ccw, n: usize) -> Walked
         }
         more -= word.count;
         match correction::next_usable(chain, size, here) {
-            Fetched::Broken(_) => {
-                return Walked::Checked;
+            Err(_) => {
+                return None;
             }
-            Fetched::Got(x, e) => {
+            Ok((x, e)) => {
                 here = x;
                 word = e;
             }
@@ -76,13 +69,20 @@ fn cut_inside(w: Csw, l: Location, left: usize) -> bool
 }
 
 // Where the data chain ended so, and the CSW has yet to agree.
-fn walked_to(chain: &[u8], csw: Csw, mask: FileMask, a: Address, kind: Kind, w: Walked) -> Decision
+fn walked_to(
+    chain: &[u8],
+    csw: Csw,
+    mask: Option<u8>,
+    a: Address,
+    kind: Kind,
+    w: Option<WalkEnd>,
+) -> Decision
     requires chain_len_bound { length chain.now ≤ 2048 }
     requires end_usable { EndUsable chain.now w }
     ensures walked_to { WalkedTo chain.now csw mask a kind w result }
     ensures goes_low { GoesLow result }
 {
-    let Walked::Ended(e) = w else {
+    let Some(e) = w else {
         return Decision::Answers(Recovered::Refused(Question::Agreement));
     };
     let l = e.at;
@@ -104,10 +104,10 @@ fn overflow_at(chain: &[u8], size: usize, t: Told, a: Address, kind: Kind) -> De
     let mask = t.mask;
     let restart = s.restart;
     let first = Location::Chain(t.first);
-    let Slot::Holds(c) = channel::fetch(chain, &chain[..0], first) else {
+    let Some(c) = channel::fetch(chain, &chain[..0], first) else {
         return Decision::Answers(Recovered::Refused(Question::Agreement));
     };
-    if !recovered::reads_data(drive::command_of(c.command)) {
+    if !recovered::reads_data(Command::from(c.command)) {
         return Decision::Answers(Recovered::Refused(Question::Agreement));
     }
     if s.byte3 != 0x06 {
@@ -131,7 +131,7 @@ pub fn nine(chain: &[u8], size: usize, t: Told) -> Decision
     ensures goes_low { GoesLow result }
 {
     let user = t.user;
-    let User::Track(a) = user else {
+    let Some(a) = user else {
         return Decision::Answers(Recovered::Refused(Question::Agreement));
     };
     overflow_at(
@@ -153,7 +153,7 @@ pub fn eleven(chain: &[u8], size: usize, t: Told) -> Decision
 {
     let user = t.user;
     let sense = t.sense;
-    let User::Track(a) = user else {
+    let Some(a) = user else {
         return Decision::Answers(Recovered::Refused(Question::Agreement));
     };
     if 18 < sense.head {

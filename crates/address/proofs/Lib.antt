@@ -1,2 +1,3 @@
 pub mod ExtentAnswer
 pub mod Models
+pub mod Order

@@ -1,38 +1,34 @@
 // The models of a pack, track addresses, their order, and the extent.
 #![tactic(auto)]
 
-ghost use Rattle.std.specs.Prelude.{◌≡◌, length};
-ghost use Rattle.address.specs.Model.{model_of, known_of, last_of};
-ghost use Rattle.address.specs.Order.{same, before, on_pack};
+ghost use Rattle.std.specs.Prelude.{◌≡◌, length, ok_or};
+ghost use Rattle.questions.specs.declared.Question.TheVariants as Question;
+ghost use Rattle.address.specs.Model.{model_of, last_of};
+ghost use Rattle.address.specs.Order.{on_pack};
 ghost use Rattle.address.specs.Within.{extent_of, within, sound_extent, extent_answer};
 
-use questions::{Checked, Question};
+use questions::Question;
 
 // The model of a pack: 1 or 11.
-#[derive(Clone, Copy)]
+#[derive(Clone, Copy, PartialEq, Eq)]
 pub enum Model {
     One,
     Eleven,
 }
 
-// What a number says of the model.
-#[derive(Clone, Copy)]
-pub enum Known {
-    Model(Model),
-    Unknown,
-}
+// The model with a number; any other number is refused by question 1.
+impl TryFrom<u8> for Model {
+    type Error = Question;
 
-// The model with a number.
-pub fn model_of(n: u8) -> Known
-    ensures { known_of result ≡ model_of n }
-{
-    if n == 1 {
-        return Known::Model(Model::One);
+    ghost try_from_gives = { λ n r. r ≡ ok_or (model_of n) Question.Areas };
+
+    fn try_from(n: u8) -> Result<Model, Question> {
+        match n {
+            1 => Ok(Model::One),
+            11 => Ok(Model::Eleven),
+            _ => Err(Question::Areas),
+        }
     }
-    if n == 11 {
-        return Known::Model(Model::Eleven);
-    }
-    Known::Unknown
 }
 
 // The last cylinder of a pack.
@@ -45,35 +41,14 @@ pub fn last_cylinder(m: Model) -> usize
     }
 }
 
-#[derive(Clone, Copy)]
+// A track. The order is by cylinder, then by head.
+#[derive(Clone, Copy, PartialEq, Eq, PartialOrd, Ord)]
 pub struct Address {
     pub cylinder: usize,
     pub head: usize,
 }
 
 impl Address {
-    pub fn same(self, b: Address) -> bool
-        ensures { result ≡ same self b }
-    {
-        if self.cylinder != b.cylinder {
-            return false;
-        }
-        self.head == b.head
-    }
-
-    // Whether this track comes before the other: by cylinder, then by head.
-    pub fn before(self, b: Address) -> bool
-        ensures { result ≡ before self b }
-    {
-        if self.cylinder < b.cylinder {
-            return true;
-        }
-        if self.cylinder != b.cylinder {
-            return false;
-        }
-        self.head < b.head
-    }
-
     // Whether the track is on a pack of this model.
     pub fn on_pack(self, m: Model) -> bool
         ensures { result ≡ on_pack (last_of m) self }
@@ -97,27 +72,23 @@ impl Extent {
     pub fn holds(self, a: Address) -> bool
         ensures { result ≡ within self a }
     {
-        let first = self.first;
-        let last = self.last;
-        if a.before(first) {
+        if a < self.first {
             return false;
         }
-        !last.before(a)
+        !(self.last < a)
     }
 
     pub fn on_pack(self) -> bool
         ensures { result ≡ sound_extent self }
     {
-        let first = self.first;
-        let end = self.last;
         let m = self.model;
-        if !first.on_pack(m) {
+        if !self.first.on_pack(m) {
             return false;
         }
-        if !end.on_pack(m) {
+        if !self.last.on_pack(m) {
             return false;
         }
-        !end.before(first)
+        !(self.last < self.first)
     }
 }
 
@@ -140,14 +111,14 @@ pub fn extent_of(m: Model, s: &[u8]) -> Extent
 }
 
 // Questions 1 and 5 for an extent: eight bytes, both tracks on the pack, the first not after the last.
-pub fn check_extent(m: Model, s: &[u8]) -> Checked
+pub fn check_extent(m: Model, s: &[u8]) -> Result<(), Question>
     ensures { result ≡ extent_answer m s.now }
 {
     if s.len() != 8 {
-        return Checked::Refused(Question::Areas);
+        return Err(Question::Areas);
     }
     if extent_of(m, s).on_pack() {
-        return Checked::Accepted;
+        return Ok(());
     }
-    Checked::Refused(Question::Extent)
+    Err(Question::Extent)
 }

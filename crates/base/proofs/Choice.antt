@@ -11,9 +11,9 @@
 --   and_left, and_right        what a true conjunction says
 --   and_true, and_second       a conjunction whose second part is known
 --   not_not, never, some_is    a test turned round twice; no test is both; what is the same in `some`
-use mathlib.Core.Path.{◌≡◌, refl}
+use Rattle.std.specs.Prelude.{Option, Some, None, Result, Ok, Err, IsErrAnd}
+use mathlib.Core.Path.{◌≡◌, refl, ap}
 use mathlib.Core.Bool.{Bool, true, false, ◌&&◌, not}
-use mathlib.Core.Option.{Option, none, some}
 use Prim.Native.Nat.{ℕ}
 use native.Mathlib.Omega.{arith}
 use Rattle.base.specs.Choice.{pick, opt}
@@ -48,18 +48,18 @@ choose_if false e f = f refl
 
 pub either {ℓ} : {A B : Type 0} (P : B → Type ℓ) (o : Option A) {y : B} {f : A → B} → P y → ((a : A) → P (f a)) → P (opt o y f)
 unfolding opt
-either P none u v = u
-either P (some a) u v = v a
+either P None u v = u
+either P (Some a) u v = v a
 
-pub either_if {ℓ} : {A B : Type 0} (P : B → Type ℓ) (o : Option A) {y : B} {f : A → B} → (o ≡ none → P y) → ((a : A) → o ≡ some a → P (f a)) → P (opt o y f)
+pub either_if {ℓ} : {A B : Type 0} (P : B → Type ℓ) (o : Option A) {y : B} {f : A → B} → (o ≡ None → P y) → ((a : A) → o ≡ Some a → P (f a)) → P (opt o y f)
 unfolding opt
-either_if P none u v = u refl
-either_if P (some a) u v = v a refl
+either_if P None u v = u refl
+either_if P (Some a) u v = v a refl
 
 pub found : {A B : Type 0} (o : Option A) {x y : B} {f g : A → B} → x ≡ y → ((a : A) → f a ≡ g a) → opt o x f ≡ opt o y g
 unfolding opt
-found none e h = e
-found (some a) e h = h a
+found None e h = e
+found (Some a) e h = h a
 
 pub split {ℓ} : {P : Type ℓ} (b : Bool) → (b ≡ true → P) → (b ≡ false → P) → P
 split true f g = f refl
@@ -88,33 +88,38 @@ not_not false = refl
 pub never : {P : Type 0} → false ≡ true → P
 never e = let z : ◌≡◌ {A = ℕ} 0 1 = cc in absurd (omega arith)
 
-pub some_is : {A : Type 0} {a b : A} → some a ≡ some b → a ≡ b
+pub some_is : {A : Type 0} {a b : A} → Some a ≡ Some b → a ≡ b
 some_is e = cc
 
-pub opt_none : {A B : Type 0} (o : Option A) (y : B) (f : A → B) → none ≡ o → opt o y f ≡ y
+pub opt_none : {A B : Type 0} (o : Option A) (y : B) (f : A → B) → None ≡ o → opt o y f ≡ y
 unfolding opt
 opt_none o y f e = rw (← e)
 
-pub opt_is : {A B : Type 0} (o : Option A) (y : B) (f : A → B) (z : A) → some z ≡ o → opt o y f ≡ f z
+pub opt_is : {A B : Type 0} (o : Option A) (y : B) (f : A → B) (z : A) → Some z ≡ o → opt o y f ≡ f z
 unfolding opt
 opt_is o y f z e = rw (← e)
 
-pub opt_opt : {A B C : Type 0} (o : Option A) (f : A → Option B) (y : C) (g : B → C) → opt (opt o none f) y g ≡ opt o y (λ a. opt (f a) y g)
+pub opt_opt : {A B C : Type 0} (o : Option A) (f : A → Option B) (y : C) (g : B → C) → opt (opt o None f) y g ≡ opt o y (λ a. opt (f a) y g)
 unfolding opt
-opt_opt none f y g = refl
-opt_opt (some a) f y g = refl
+opt_opt None f y g = refl
+opt_opt (Some a) f y g = refl
 
-pub found_if : {A B : Type 0} (o : Option A) {x y : B} {f g : A → B} → x ≡ y → ((a : A) → o ≡ some a → f a ≡ g a) → opt o x f ≡ opt o y g
+pub found_if : {A B : Type 0} (o : Option A) {x y : B} {f g : A → B} → x ≡ y → ((a : A) → o ≡ Some a → f a ≡ g a) → opt o x f ≡ opt o y g
 unfolding opt
-found_if none e h = e
-found_if (some a) e h = h a refl
+found_if None e h = e
+found_if (Some a) e h = h a refl
 
-pub opt_const : {A B : Type 0} (o : Option A) {y : B} {f : A → B} → ((a : A) → o ≡ some a → f a ≡ y) → opt o y f ≡ y
+pub opt_const : {A B : Type 0} (o : Option A) {y : B} {f : A → B} → ((a : A) → o ≡ Some a → f a ≡ y) → opt o y f ≡ y
 unfolding opt
-opt_const none h = refl
-opt_const (some a) h = h a refl
+opt_const None h = refl
+opt_const (Some a) h = h a refl
 
-pub opt_some : {A B : Type 0} (o : Option A) (f : A → Option B) {b : B} → opt o none f ≡ some b → (a : A) × (o ≡ some a) × (f a ≡ some b)
+pub opt_some : {A B : Type 0} (o : Option A) (f : A → Option B) {b : B} → opt o None f ≡ Some b → (a : A) × (o ≡ Some a) × (f a ≡ Some b)
 unfolding opt
-opt_some none f h = let z : ◌≡◌ {A = ℕ} 0 1 = cc in absurd (omega arith)
-opt_some (some a) f h = (a, refl, h)
+opt_some None f h = let z : ◌≡◌ {A = ℕ} 0 1 = cc in absurd (omega arith)
+opt_some (Some a) f h = (a, refl, h)
+
+-- an error that `?` hands on as it is
+pub err_is : {A E : Type 0} (r : Result A E) {e : E} → IsErrAnd r (λ x. x ≡ e) → r ≡ Err e
+err_is (Ok a) h = absurd h
+err_is (Err x) h = ap Err h

@@ -1,7 +1,6 @@
 -- Choices by a test and by what may be missing, shared by all definitions.
 -- They stay calls until a proof opens them, so that proofs can name their parts.
-use Rattle.std.specs.Prelude.{Bool, true, false}
-use Rattle.std.proofs.Math.Option.{Option, none, some}
+use Rattle.std.specs.Prelude.{Bool, true, false, Option, Some, None}
 
 -- x if the test holds, else y
 unfoldable pub pick {ℓ} : {A : Type ℓ} → Bool → A → A → A
@@ -10,5 +9,5 @@ pick false x y = y
 
 -- y if there is nothing, else what f makes of it
 unfoldable pub opt : {A B : Type 0} → Option A → B → (A → B) → B
-opt none y f = y
-opt (some a) y f = f a
+opt None y f = y
+opt (Some a) y f = f a

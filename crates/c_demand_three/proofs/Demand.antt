@@ -1,7 +1,7 @@
 -- DEMAND 3 of the call for C: `giruve_reading_keeps_demand_three`, from that of the call which it hands out.
+use Rattle.std.specs.Prelude.{Some}
 use Prim.Native.Nat.{ℕ}
 use mathlib.Core.Path.{◌≡◌, refl, ap, ◌∙◌}
-use mathlib.Core.Option.{some}
 use mathlib.Core.List.{List}
 use lib.ListN.{length}
 use borrow.Author.Tests.{eq-eqb}
@@ -17,7 +17,7 @@ use Rattle.giruve.specs.Reading.{ReadingHanded, concluded_handing, reading_hande
 use Rattle.c_demand_three.specs.Demand.{GiruveReadingKeepsDemandThree}
 
 -- by the number of a model it is the call on that model
-called_by : (model : ℕ) (m : Model) (chain arguments st image faults extent : List ℕ) (n : ℕ) (p a l : List ℕ) → model_of model ≡ some m
+called_by : (model : ℕ) (m : Model) (chain arguments st image faults extent : List ℕ) (n : ℕ) (p a l : List ℕ) → model_of model ≡ Some m
     → reading_call_by model chain arguments st image faults extent n p a l ≡ reading_call m chain arguments st image faults extent n p a l
 unfolding reading_call_by opt
 called_by model m chain arguments st image faults extent n p a l known = rw known

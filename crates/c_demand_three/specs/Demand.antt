@@ -1,7 +1,6 @@
 -- DEMAND 3 of the call for C: what `giruve_reading` returns and leaves, by its contract `ReadingHandsOut`, keeps demand 3
 -- (Rattle.demand_three.specs.Demand), for every reading that document 01 lets begin, the number of its model and every answer area of 11 bytes.
-use Rattle.std.specs.Prelude.{ℕ, ◌≡◌, List, [], ◌∷◌, ◌++◌, length}
-use Rattle.std.proofs.Math.Option.{some}
+use Rattle.std.specs.Prelude.{ℕ, ◌≡◌, List, [], ◌∷◌, ◌++◌, length, Some}
 use Rattle.base.specs.Bytes.{two}
 use Rattle.address.specs.Model.{model_of}
 use Rattle.channel.specs.Csw.{csw_bytes}
@@ -34,7 +33,7 @@ pub record HandedLikeFaultless (g : Lending) (e : End) (b : Beside) (h : Reading
 abbrev pub GiruveReadingKeepsDemandThree : Type 0
 GiruveReadingKeepsDemandThree =
     (g : Lending) (e : End) → Begins g → Provided g e → (b : Beside) → Lends g b → (answer : List ℕ) → length answer ≡ 11
-    → (model : ℕ) → model_of model ≡ some g.model → (h : ReadingHanded)
+    → (model : ℕ) → model_of model ≡ Some g.model → (h : ReadingHanded)
     → ReadingHandsOut model g.chain g.arguments g.storage g.image g.fault_list g.extent g.limit b.program b.restart_arguments b.list
     answer h
     → HandedLikeFaultless g e b h

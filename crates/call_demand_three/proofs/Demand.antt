@@ -1,6 +1,7 @@
 -- DEMAND 3 of the code.
 --   length_made               the recoveries are as many as the faulted data areas
 --   call_keeps_demand_three   the theorem
+use Rattle.std.specs.Prelude.{Ok}
 use Prim.Native.Nat.{ℕ}
 use mathlib.Core.Path.{◌≡◌, ap, sym, ◌∙◌}
 use mathlib.Core.Bool.{true}
@@ -16,7 +17,6 @@ use Rattle.demand_three.specs.Demand.{Lending, setting_of, Begins, end_of, recov
 use Rattle.demand_three.proofs.DemandThree.{demand_three}
 use Rattle.demand_three.proofs.Exception.{same_but_for_the_count}
 use Rattle.reading_runs.specs.declared.How.TheVariants.{Ended}
-use Rattle.reading_runs.specs.declared.Outcome.TheVariants.{Over}
 use Rattle.reading_runs.specs.Conclusion.{Conclusion, over, concluded}
 use Rattle.whole_reading.specs.Reading.{reading_areas, reading_call}
 use Rattle.call_demand_three.specs.Demand.{Beside, Lends, CallKeepsDemandThree}
@@ -41,7 +41,7 @@ call_keeps_demand_three g e begins provided b lends c answers =
     answers ∙ begun g b begins lends ∙ ap (λ (q : Whole). concluded q b.program b.restart_arguments b.list) like.same_end in
     record {
       like = like;
-      answer = ap (λ (k : Conclusion). k.answer) is ∙ ap (λ (n : ℕ). Over (record { csw = (end_of g e).csw; made = n; how = Ended })) (length_made like);
+      answer = ap (λ (k : Conclusion). k.answer) is ∙ ap (λ (n : ℕ). Ok (record { csw = (end_of g e).csw; made = n; how = Ended })) (length_made like);
       storage = ap (λ (k : Conclusion). k.storage) is ∙ (same_but_for_the_count g e begins provided).same_storage;
       list = ap (λ (k : Conclusion). k.list) is;
       program = ap (λ (k : Conclusion). k.program) is;

@@ -1,4 +1,5 @@
 -- What can stop a reading, of the code: `call_stopped_by_two_or_nine`.
+use Rattle.std.specs.Prelude.{Ok, Err}
 use Prim.Native.Nat.{ℕ}
 use native.Mathlib.Omega.{arith}
 use mathlib.Core.Path.{◌≡◌, refl, ap, ◌∙◌}
@@ -18,7 +19,6 @@ use Rattle.reading_cut.specs.Entry.{stopped_number}
 use Rattle.reading_runs.specs.declared.How.{How}
 use Rattle.reading_runs.specs.declared.How.TheVariants.{Ended, Limited, Stop}
 use Rattle.reading_runs.specs.declared.Over as Code
-use Rattle.reading_runs.specs.declared.Outcome.TheVariants.{Refused, Over}
 use Rattle.reading_runs.specs.Conclusion.{Conclusion, leaving, over, concluded}
 use Rattle.whole_reading.specs.Reading.{reading_call}
 use Rattle.call_demand_three.specs.Stopped.{CallStoppedByTwoOrNine}
@@ -32,10 +32,10 @@ number_of_lem n h = ⊎_elim (λ e. inl (ap stopped_number e)) (λ e. inr (ap st
 
 -- a conclusion that is "stopped", if at all, with such a number
 Allowed : Conclusion → Type 0
-Allowed c = (o : Code.Over) (m : ℕ) → c.answer ≡ Over o → o.how ≡ Stop m → Number m
+Allowed c = (o : Code.Over) (m : ℕ) → c.answer ≡ Ok o → o.how ≡ Stop m → Number m
 
 module _ (p a l : List ℕ) where
-  refused_allowed : (q : Question) (st : List ℕ) → Allowed (leaving (Refused q) st p a l)
+  refused_allowed : (q : Question) (st : List ℕ) → Allowed (leaving (Err q) st p a l)
   unfolding Allowed
   refused_allowed q st o m e h = let z : ◌≡◌ {A = ℕ} 0 1 = cc in absurd (omega arith)
 
@@ -55,7 +55,7 @@ pub call_stopped_by_two_or_nine : CallStoppedByTwoOrNine
 unfolding reading_call Allowed
 call_stopped_by_two_or_nine model chain arguments st image faults extent n p a l = allowed
   where
-    no : (q : Question) → Allowed (leaving (Refused q) st p a l)
+    no : (q : Question) → Allowed (leaving (Err q) st p a l)
     no q = refused_allowed p a l q st
 
     allowed : Allowed (reading_call model chain arguments st image faults extent n p a l)

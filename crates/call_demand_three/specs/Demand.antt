@@ -1,11 +1,10 @@
 -- DEMAND 3 of the code: what a call of `whole_reading::read` answers and leaves, by its contract `Answers`, keeps demand 3
 -- (Rattle.demand_three.specs.Demand), for every reading that document 01 lets begin.
-use Rattle.std.specs.Prelude.{ℕ, ◌*◌, ◌≡◌, true, List, leb, length}
+use Rattle.std.specs.Prelude.{ℕ, ◌*◌, ◌≡◌, true, List, leb, length, Ok}
 use Rattle.questions.specs.Areas.{restart_areas}
 use Rattle.drive.specs.Step.{End}
 use Rattle.demand_three.specs.Demand.{Lending, Begins, Provided, end_of, faulted_areas, LikeFaultless}
 use Rattle.reading_runs.specs.declared.How.TheVariants.{Ended}
-use Rattle.reading_runs.specs.declared.Outcome.TheVariants.{Over}
 use Rattle.reading_runs.specs.Conclusion.{Conclusion, list_after, program_after, restart_arguments_after}
 use Rattle.whole_reading.specs.Reading.{Answers}
 
@@ -27,7 +26,7 @@ pub record Keeps (g : Lending) (e : End) (b : Beside) (c : Conclusion) : Type 0 
   pub like : LikeFaultless g e
   -- it ends, neither as "limit" nor as "stopped", with the faultless run's address, unit and channel status and count left, but for the exception
   -- that `end_of` states; "the recoveries that the reading reports number the faulted data areas that this faultless run reads, one for each time"
-  pub answer : c.answer ≡ Over (record { csw = (end_of g e).csw; made = length (faulted_areas g); how = Ended })
+  pub answer : c.answer ≡ Ok (record { csw = (end_of g e).csw; made = length (faulted_areas g); how = Ended })
   -- storage equals the faultless run's
   pub storage : c.storage ≡ e.storage
   -- the list names these recoveries, in order

@@ -3,11 +3,11 @@
 --   unformed .. in-range       whether a read may use a CCW
 --   misplaced .. stands-inside whether a CCW stands at a place, and which
 --   nothing-there .. tic-lands the CCW that comes next
+use Rattle.std.specs.Prelude.{Some, None, Ok, Err}
 use Prim.Native.Nat.{ℕ, ◌+◌, ◌/◌, ◌%◌}
 use native.Mathlib.Omega.{arith}
 use mathlib.Core.Path.{◌≡◌, refl}
 use mathlib.Core.Bool.{Bool, true, false, ◌&&◌}
-use mathlib.Core.Option.{none, some}
 use mathlib.Core.List.{List}
 use lib.Dec.{eqb, ltb, leb}
 use borrow.Author.Tests.{ltb-true, ltb-false, leb-true, le-leb, lt-leb, eq-eqb, ne_eqb}
@@ -16,8 +16,6 @@ use Rattle.base.proofs.Choice.{and_left, not_not}
 use Rattle.channel.specs.declared.Ccw.{Ccw}
 use Rattle.channel.specs.declared.Location.{Location}
 use Rattle.channel.specs.declared.Location.TheVariants.{Chain, Restart}
-use Rattle.channel.specs.declared.Slot.TheVariants.{Holds, Past}
-use Rattle.channel.specs.declared.Fetched.TheVariants.{Got, Broken}
 use Rattle.channel.specs.Ccw.{Lent, is_tic, formed, skips, suppresses, chains_data, fetch_in, fetch, target, landed, follow, resolve, storage_inside}
 use Rattle.channel.specs.Walk.{readable, incorrect_length}
 use Rattle.channel.specs.Fetch.{shows_length, stands_at, stands_in, ccw_in, Inside, Fetches}
@@ -82,12 +80,12 @@ module _ (n a : ℕ) where
       by false h = let k = ltb-false (a / 8) (n / 8) h in rw (lt-leb (a + 8) n (omega arith))
 
 module _ (s r : List ℕ) where
-  pub nothing_stands : (l : Location) → stands_in s r l ≡ false → Fetches s r l Past
+  pub nothing_stands : (l : Location) → stands_in s r l ≡ false → Fetches s r l None
   unfolding fetch fetch_in pick stands_in
   nothing_stands (Chain a) h = λ p e f. rw (e, h)
   nothing_stands (Restart a) h = λ p e f. rw (f, h)
 
-  pub one_stands : (l : Location) {c : Ccw} → stands_in s r l ≡ true → c ≡ ccw_in s r l → Fetches s r l (Holds c)
+  pub one_stands : (l : Location) {c : Ccw} → stands_in s r l ≡ true → c ≡ ccw_in s r l → Fetches s r l (Some c)
   unfolding fetch fetch_in pick stands_in ccw_in
   one_stands (Chain a) h q = λ p e f. rw (e, h, q)
   one_stands (Restart a) h q = λ p e f. rw (f, h, q)
@@ -98,25 +96,25 @@ module _ (s r : List ℕ) where
   stands_inside (Restart a) h = leb-true _ _ (and_left _ _ h)
 
 module _ (p : Lent) (last l : Location) where
-  pub nothing_there : none ≡ fetch p l → Broken last ≡ resolve p last l
+  pub nothing_there : None ≡ fetch p l → Err last ≡ resolve p last l
   unfolding resolve follow
   nothing_there e = rw (← e)
 
-  module _ {c : Ccw} (f : some c ≡ fetch p l) where
-    pub plain_ccw : is_tic c ≡ false → Got l c ≡ resolve p last l
+  module _ {c : Ccw} (f : Some c ≡ fetch p l) where
+    pub plain_ccw : is_tic c ≡ false → Ok (l, c) ≡ resolve p last l
     unfolding resolve follow pick
     plain_ccw t = rw (← f, t)
 
     module _ (t : is_tic c ≡ true) {to : Location} (e : to ≡ target l c.address) where
-      pub tic_nowhere : none ≡ fetch p to → Broken l ≡ resolve p last l
+      pub tic_nowhere : None ≡ fetch p to → Err l ≡ resolve p last l
       unfolding resolve follow landed pick
       tic_nowhere g = rw (← f, t, ← e, ← g)
 
-      module _ {d : Ccw} (g : some d ≡ fetch p to) where
-        pub tic_to_tic : is_tic d ≡ true → Broken to ≡ resolve p last l
+      module _ {d : Ccw} (g : Some d ≡ fetch p to) where
+        pub tic_to_tic : is_tic d ≡ true → Err to ≡ resolve p last l
         unfolding resolve follow landed pick
         tic_to_tic u = rw (← f, t, ← e, ← g, u)
 
-        pub tic_lands : is_tic d ≡ false → Got to d ≡ resolve p last l
+        pub tic_lands : is_tic d ≡ false → Ok (to, d) ≡ resolve p last l
         unfolding resolve follow landed pick
         tic_lands u = rw (← f, t, ← e, ← g, u)

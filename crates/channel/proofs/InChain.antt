@@ -13,16 +13,14 @@
 --   argument_local      so are the bytes of an argument
 --   argumentInside-local
 --                       and whether it is inside
+use Rattle.std.specs.Prelude.{Option, Some, None, Result, Ok, Err}
 use Prim.Native.Nat.{ℕ, zero, suc, ◌+◌}
 use mathlib.Core.Path.{◌≡◌, refl, ap}
-use mathlib.Core.Option.{Option, none, some}
 use mathlib.Core.List.{List}
 use Rattle.base.proofs.Choice.{both, choose}
 use Rattle.channel.specs.declared.Ccw.{Ccw}
 use Rattle.channel.specs.declared.Location.{Location}
 use Rattle.channel.specs.declared.Location.TheVariants.{Chain, Restart}
-use Rattle.channel.specs.declared.Fetched.{Fetched}
-use Rattle.channel.specs.declared.Fetched.TheVariants.{Got, Broken}
 use Rattle.channel.specs.Ccw.{Lent, next, fetch_in, fetch, target, landed, follow, resolve, arguments_at, argument_inside, argument}
 use Rattle.channel.specs.Walk.{Walk, walked, checked, behind_place, place_under, chained, walk}
 
@@ -30,9 +28,9 @@ abbrev pub InChain : Location → Type 0
 InChain (Chain a) = Unit {0}
 InChain (Restart a) = ⊥
 
-abbrev pub FetchedIn : Fetched → Type 0
-FetchedIn (Got l c) = InChain l
-FetchedIn (Broken l) = Unit {0}
+abbrev pub FetchedIn : Result (Location × Ccw) Location → Type 0
+FetchedIn (Ok (l, c)) = InChain l
+FetchedIn (Err l) = Unit {0}
 
 abbrev pub WalkIn : Walk → Type 0
 WalkIn (walked ps l c left over) = InChain l
@@ -47,13 +45,13 @@ next_in (Restart a) h = h
 
 landed_in : (tic l : Location) (o : Option Ccw) → InChain l → FetchedIn (landed tic l o)
 unfolding landed
-landed_in tic l none h = tt
-landed_in tic l (some c) h = both FetchedIn _ tt h
+landed_in tic l None h = tt
+landed_in tic l (Some c) h = both FetchedIn _ tt h
 
 follow_in : (p : Lent) (last l : Location) (o : Option Ccw) → InChain l → FetchedIn (follow p last l o)
 unfolding follow target
-follow_in p last (Chain a) none h = tt
-follow_in p last (Chain a) (some c) h = both FetchedIn _ (landed_in (Chain a) (Chain c.address) (fetch p (Chain c.address)) tt) tt
+follow_in p last (Chain a) None h = tt
+follow_in p last (Chain a) (Some c) h = both FetchedIn _ (landed_in (Chain a) (Chain c.address) (fetch p (Chain c.address)) tt) tt
 follow_in p last (Restart a) o h = absurd h
 
 pub resolve_in : (p : Lent) (last l : Location) → InChain l → FetchedIn (resolve p last l)
@@ -65,11 +63,11 @@ unfolding behind_place
 behind_place_in q (walked ps l c left over) h = h
 behind_place_in q (checked ps l) h = tt
 
-chained_in : (on : Location → Ccw → ℕ → ℕ → Walk) (size : ℕ) (g : Fetched) → FetchedIn g
+chained_in : (on : Location → Ccw → ℕ → ℕ → Walk) (size : ℕ) (g : Result (Location × Ccw) Location) → FetchedIn g
     → ((l : Location) (c : Ccw) (left a : ℕ) → InChain l → WalkIn (on l c left a)) → WalkIn (chained on size g)
 unfolding chained
-chained_in on size (Broken l) h f = tt
-chained_in on size (Got l c) h f = both WalkIn _ (f l c c.count c.address h) tt
+chained_in on size (Err l) h f = tt
+chained_in on size (Ok (l, c)) h f = both WalkIn _ (f l c c.count c.address h) tt
 
 pub walk_in : (p : Lent) (size n : ℕ) (l : Location) (c : Ccw) (left a : ℕ) → InChain l → WalkIn (walk p size n l c left a)
 unfolding walk
@@ -91,20 +89,20 @@ module _ (p : Lent) (arguments program restart_arguments : List ℕ) where
 
   follow_same : (last : Location) (a : ℕ) (o : Option Ccw) → follow q last (Chain a) o ≡ follow p last (Chain a) o
   unfolding follow fetch target
-  follow_same last a none = refl
-  follow_same last a (some c) = refl
+  follow_same last a None = refl
+  follow_same last a (Some c) = refl
 
   pub resolve_same : (last l : Location) → InChain l → resolve (beside p arguments program restart_arguments) last l ≡ resolve p last l
   unfolding resolve fetch
   resolve_same last (Chain a) h = follow_same last a (fetch_in p.chain a)
   resolve_same last (Restart a) h = absurd h
 
-  chained_same : (size n : ℕ) (g : Fetched) → FetchedIn g
+  chained_same : (size n : ℕ) (g : Result (Location × Ccw) Location) → FetchedIn g
       → ((l : Location) (c : Ccw) (left a : ℕ) → InChain l → walk q size n l c left a ≡ walk p size n l c left a)
       → chained (walk q size n) size g ≡ chained (walk p size n) size g
   unfolding chained
-  chained_same size n (Broken l) h f = refl
-  chained_same size n (Got l c) h f = choose _ (f l c c.count c.address h) refl
+  chained_same size n (Err l) h f = refl
+  chained_same size n (Ok (l, c)) h f = choose _ (f l c c.count c.address h) refl
 
   pub walk_same : (size n : ℕ) (l : Location) (c : Ccw) (left a : ℕ) → InChain l
       → walk (beside p arguments program restart_arguments) size n l c left a ≡ walk p size n l c left a

@@ -16,10 +16,10 @@
 --   store_append           more places take the bytes behind those
 --   store_range            what the places under one CCW store
 --   store_skipped          they store nothing where it skips
+use Rattle.std.specs.Prelude.{Option, Some, None}
 use Prim.Native.Nat.{ℕ, zero, suc, ◌+◌, ◌-◌, ◌≤◌, ◌<◌}
 use mathlib.Core.Path.{◌≡◌, refl, ap, ◌∙◌}
 use mathlib.Core.Bool.{Bool, true, false}
-use mathlib.Core.Option.{Option, none, some}
 use mathlib.Core.List.{List, [], ◌∷◌, ◌++◌, append_assoc}
 use lib.Dec.{ltb}
 use lib.ListN.{length, take, drop, length-set}
@@ -129,8 +129,8 @@ module _ (p : Lent) (size : ℕ) where
 
 pub length_put : (q : Option ℕ) (b : ℕ) (st : List ℕ) → length (put q b st) ≡ length st
 unfolding put
-length_put none b st = refl
-length_put (some a) b st = length-set st a b
+length_put None b st = refl
+length_put (Some a) b st = length-set st a b
 
 pub length_store : (ps : List (Option ℕ)) (bs st : List ℕ) → length (store ps bs st) ≡ length st
 unfolding store

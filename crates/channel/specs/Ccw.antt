@@ -1,14 +1,11 @@
 -- Channel command words, the areas they stand in and may name, and how the next one is found (document 01, "Channel").
-use Rattle.std.specs.Prelude.{ℕ, ◌+◌, ◌-◌, ◌%◌, Bool, ◌&&◌, ◌||◌, not, List, eqb, ltb, leb, length, get_or}
-use Rattle.std.proofs.Math.Option.{Option, none, some}
+use Rattle.std.specs.Prelude.{ℕ, ◌+◌, ◌-◌, ◌%◌, Bool, ◌&&◌, ◌||◌, not, List, eqb, ltb, leb, length, get_or, Option, Some, None, Result, Ok, Err}
 use Rattle.base.specs.Choice.{pick}
 use Rattle.base.specs.Bytes.{be16_at, be24_at, part}
 use Rattle.base.specs.Bits.{bit_on}
 use Rattle.channel.specs.declared.Ccw.{Ccw}
 use Rattle.channel.specs.declared.Location.{Location}
 use Rattle.channel.specs.declared.Location.TheVariants.{Chain, Restart}
-use Rattle.channel.specs.declared.Fetched.{Fetched}
-use Rattle.channel.specs.declared.Fetched.TheVariants.{Got, Broken}
 
 -- ---- a CCW
 
@@ -61,7 +58,7 @@ pub record Lent : Type 0 where
 
 -- "a CCW address past the chain or not a multiple of 8" is a program check
 unfoldable pub fetch_in : List ℕ → ℕ → Option Ccw
-fetch_in s a = pick (leb (a + 8) (length s) && eqb (a % 8) 0) (some (ccw_at s a)) none
+fetch_in s a = pick (leb (a + 8) (length s) && eqb (a % 8) 0) (Some (ccw_at s a)) None
 
 -- the CCW at a place, in the chain or in the restart program; none where no CCW stands
 unfoldable pub fetch : Lent → Location → Option Ccw
@@ -76,17 +73,17 @@ target (Restart a) to = pick (ltb to 0x1000) (Chain to) (Restart (to - 0x1000))
 -- ---- the next CCW
 
 -- behind a TIC: "TIC .. to a TIC" is a program check
-unfoldable pub landed : Location → Location → Option Ccw → Fetched
-landed tic l none = Broken tic
-landed tic l (some c) = pick (is_tic c) (Broken l) (Got l c)
+unfoldable pub landed : Location → Location → Option Ccw → Result (Location × Ccw) Location
+landed tic l None = Err tic
+landed tic l (Some c) = pick (is_tic c) (Err l) (Ok (l, c))
 
 -- the CCW c at l, or the one to which it leads as a TIC; a program check where there is none, with the CCW that was fetched last
-unfoldable pub follow : Lent → Location → Location → Option Ccw → Fetched
-follow p last l none = Broken last
-follow p last l (some c) = pick (is_tic c) (landed l (target l c.address) (fetch p (target l c.address))) (Got l c)
+unfoldable pub follow : Lent → Location → Location → Option Ccw → Result (Location × Ccw) Location
+follow p last l None = Err last
+follow p last l (Some c) = pick (is_tic c) (landed l (target l c.address) (fetch p (target l c.address))) (Ok (l, c))
 
 -- from the CCW that was fetched last to the one at a place
-unfoldable pub resolve : Lent → Location → Location → Fetched
+unfoldable pub resolve : Lent → Location → Location → Result (Location × Ccw) Location
 resolve p last l = follow p last l (fetch p l)
 
 -- ---- what a CCW may name

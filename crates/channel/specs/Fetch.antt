@@ -1,23 +1,13 @@
 -- What the channel's code answers, in terms of the definitions.
-use Rattle.std.specs.Prelude.{ℕ, ◌+◌, ◌%◌, ◌<◌, ◌≤◌, ◌≡◌, Bool, ◌&&◌, not, List, eqb, leb, length}
-use Rattle.std.proofs.Math.Option.{Option, none, some}
+use Rattle.std.specs.Prelude.{ℕ, ◌+◌, ◌%◌, ◌<◌, ◌≤◌, ◌≡◌, Bool, ◌&&◌, not, List, eqb, leb, length, Option, Some, None, Result, Ok, Err}
 use Rattle.channel.specs.declared.Ccw.{Ccw}
 use Rattle.channel.specs.declared.Location.{Location}
 use Rattle.channel.specs.declared.Location.TheVariants.{Chain, Restart}
-use Rattle.channel.specs.declared.Fetched.{Fetched}
-use Rattle.channel.specs.declared.Fetched.TheVariants.{Got, Broken}
-use Rattle.channel.specs.declared.Slot.{Slot}
-use Rattle.channel.specs.declared.Slot.TheVariants.{Holds, Past}
 use Rattle.channel.specs.Ccw.{Lent, ccw_at, chains_data, suppresses, fetch, resolve}
 
 -- "suppressed by SLI only with CD off"
 unfoldable pub shows_length : Ccw → Bool
 shows_length c = not (suppresses c && not (chains_data c))
-
--- what stands at a CCW address, as the definitions have it: a CCW or none
-abbrev pub slot_of : Slot → Option Ccw
-slot_of Past = none
-slot_of (Holds c) = some c
 
 -- A CCW's address is in three bytes, its count in two.
 pub record InBytes (c : Ccw) : Type 0 where
@@ -44,19 +34,19 @@ Inside s r (Chain a) = a + 8 ≤ length s
 Inside s r (Restart a) = a + 8 ≤ length r
 
 -- a CCW that stands at l is wholly in its area, and its address and count fit their bytes
-abbrev pub FetchedFrom : List ℕ → List ℕ → Location → Slot → Type 0
-FetchedFrom s r l Past = Unit {0}
-FetchedFrom s r l (Holds c) = Inside s r l × InBytes c
+abbrev pub FetchedFrom : List ℕ → List ℕ → Location → Option Ccw → Type 0
+FetchedFrom s r l None = Unit {0}
+FetchedFrom s r l (Some c) = Inside s r l × InBytes c
 
 -- the same of the CCW that comes next, at its own place
-abbrev pub GotInside : List ℕ → List ℕ → Fetched → Type 0
-GotInside s r (Broken l) = Unit {0}
-GotInside s r (Got l c) = Inside s r l × InBytes c
+abbrev pub GotInside : List ℕ → List ℕ → Result (Location × Ccw) Location → Type 0
+GotInside s r (Err l) = Unit {0}
+GotInside s r (Ok (l, c)) = Inside s r l × InBytes c
 
 -- fetch and resolve read the chain and the restart program alone
-abbrev pub Fetches : List ℕ → List ℕ → Location → Slot → Type 0
-Fetches s r l x = (p : Lent) → p.chain ≡ s → p.program ≡ r → slot_of x ≡ fetch p l
+abbrev pub Fetches : List ℕ → List ℕ → Location → Option Ccw → Type 0
+Fetches s r l x = (p : Lent) → p.chain ≡ s → p.program ≡ r → x ≡ fetch p l
 
 -- of resolve: from the CCW that was fetched last to the one at l
-abbrev pub Resolves : List ℕ → List ℕ → Location → Location → Fetched → Type 0
+abbrev pub Resolves : List ℕ → List ℕ → Location → Location → Result (Location × Ccw) Location → Type 0
 Resolves s r last l x = (p : Lent) → p.chain ≡ s → p.program ≡ r → x ≡ resolve p last l

@@ -1,12 +1,9 @@
 -- The data chain of a read (document 01, "Channel"): which byte goes to which storage address, and how the read ends.
 -- Reads of the drive and the recovery's walk are this one definition; it never sees a byte.
-use Rattle.std.specs.Prelude.{ℕ, zero, suc, ◌+◌, Bool, true, false, ◌&&◌, ◌||◌, not, List, [], ◌∷◌, eqb}
-use Rattle.std.proofs.Math.Option.{Option, none, some}
+use Rattle.std.specs.Prelude.{ℕ, zero, suc, ◌+◌, Bool, true, false, ◌&&◌, ◌||◌, not, List, [], ◌∷◌, eqb, Option, Some, None, Result, Ok, Err}
 use Rattle.base.specs.Choice.{pick}
 use Rattle.channel.specs.declared.Ccw.{Ccw}
 use Rattle.channel.specs.declared.Location.{Location}
-use Rattle.channel.specs.declared.Fetched.{Fetched}
-use Rattle.channel.specs.declared.Fetched.TheVariants.{Got, Broken}
 use Rattle.channel.specs.Ccw.{Lent, chains_data, suppresses, skips, formed, next, resolve, storage_inside}
 
 -- How a data chain goes: the storage address of each byte that a count takes, none for a skipped byte; and how the read ends.
@@ -23,7 +20,7 @@ behind_place q (checked ps l) = checked (q ∷ ps) l
 
 -- "unless a read skips it": a byte's place under a CCW
 unfoldable pub place_under : Ccw → ℕ → Option ℕ
-place_under c a = pick (skips c) none (some a)
+place_under c a = pick (skips c) None (Some a)
 
 -- a CCW that a read may use, first or data-chained: its count, flags and range
 unfoldable pub readable : ℕ → Ccw → Bool
@@ -31,9 +28,9 @@ readable size c = formed c && storage_inside size c
 
 -- "When a count runs out under CD the next CCW is fetched immediately; its code matters only if TIC."
 -- `on` goes on with it, its whole count and its address.
-unfoldable pub chained : (Location → Ccw → ℕ → ℕ → Walk) → ℕ → Fetched → Walk
-chained on size (Broken l) = checked [] l
-chained on size (Got l c) = pick (readable size c) (on l c c.count c.address) (checked [] l)
+unfoldable pub chained : (Location → Ccw → ℕ → ℕ → Walk) → ℕ → Result (Location × Ccw) Location → Walk
+chained on size (Err l) = checked [] l
+chained on size (Ok (l, c)) = pick (readable size c) (on l c c.count c.address) (checked [] l)
 
 -- n bytes are still to come, the current CCW has `left` of its count left, and the next byte's address is a.
 unfoldable pub walk : Lent → ℕ → ℕ → Location → Ccw → ℕ → ℕ → Walk

@@ -24,13 +24,6 @@ pub enum Location {
     Restart(usize),
 }
 
-// The CCW that comes next, through at most one TIC; or a program check, with the CCW that was fetched last.
-#[derive(Clone, Copy)]
-pub enum Fetched {
-    Got(Location, Ccw),
-    Broken(Location),
-}
-
 // Unit status, and that of a command whose end shows neither unit check nor unit exception.
 pub const CHANNEL_END: u8 = 0x08;
 
@@ -54,13 +47,6 @@ pub struct Csw {
     pub count: usize,
     pub unit: u8,
     pub channel: u8,
-}
-
-// What stands at a CCW address of an area.
-#[derive(Clone, Copy)]
-pub enum Slot {
-    Holds(Ccw),
-    Past,
 }
 
 impl Ccw {
@@ -191,14 +177,14 @@ fn held(chain: &[u8], program: &[u8], l: Location) -> Ccw
     }
 }
 
-pub fn fetch(chain: &[u8], program: &[u8], l: Location) -> Slot
+pub fn fetch(chain: &[u8], program: &[u8], l: Location) -> Option<Ccw>
     ensures fetches { Fetches chain.now program.now l result }
     ensures fetched_from { FetchedFrom chain.now program.now l result }
 {
     if holds(chain, program, l) {
-        return Slot::Holds(held(chain, program, l));
+        return Some(held(chain, program, l));
     }
-    Slot::Past
+    None
 }
 
 // Where a TIC leads.
@@ -229,22 +215,27 @@ fn anew(l: Location) -> Location
 }
 
 // The CCW at a place, through at most one TIC; `last` is the one that was fetched before it.
-pub fn resolve(chain: &[u8], program: &[u8], last: Location, l: Location) -> Fetched
+pub fn resolve(
+    chain: &[u8],
+    program: &[u8],
+    last: Location,
+    l: Location,
+) -> Result<(Location, Ccw), Location>
     ensures resolves { Resolves chain.now program.now last l result }
     ensures got_inside { GotInside chain.now program.now result }
 {
-    let Slot::Holds(c) = fetch(chain, program, l) else {
-        return Fetched::Broken(anew(last));
+    let Some(c) = fetch(chain, program, l) else {
+        return Err(anew(last));
     };
     if !c.is_tic() {
-        return Fetched::Got(anew(l), c);
+        return Ok((anew(l), c));
     }
     let to = target(l, c.address);
-    let Slot::Holds(e) = fetch(chain, program, to) else {
-        return Fetched::Broken(anew(l));
+    let Some(e) = fetch(chain, program, to) else {
+        return Err(anew(l));
     };
     if e.is_tic() {
-        return Fetched::Broken(to);
+        return Err(to);
     }
-    Fetched::Got(to, e)
+    Ok((to, e))
 }

@@ -11,7 +11,6 @@ ghost use Rattle.command.specs.Answer.{check_of, Answers, Checked, KeptWith, Kep
 use address::Address;
 use base::{FromEnd, FromFront};
 use channel::{Ccw, Csw, Location};
-use drive::FileMask;
 use position::Drive;
 
 // The unit checks that are no data check.
@@ -46,7 +45,7 @@ pub struct State {
 pub struct End {
     pub csw: Csw,
     pub status: Status,
-    pub mask: FileMask,
+    pub mask: Option<u8>,
 }
 
 // A cut by a faulted data area: the CSW, the record, restart and error displacement, the first CCW of the read, the three pattern
@@ -63,7 +62,7 @@ pub struct Cut {
     pub pattern1: u8,
     pub pattern2: u8,
     pub over: bool,
-    pub mask: FileMask,
+    pub mask: Option<u8>,
 }
 
 #[derive(Clone, Copy)]

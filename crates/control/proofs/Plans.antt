@@ -11,6 +11,7 @@
 --   seek-uncounted .. search-uncounted    a wrong count or CD
 --   noop_performs, unlisted_performs      the commands without argument
 --   seek-performs .. search-performs      those with one
+use Rattle.std.specs.Prelude.{Some}
 use Prim.Native.Nat.{ℕ, ◌+◌, ◌-◌, ◌*◌, ◌<◌}
 use native.Mathlib.Omega.{arith}
 use mathlib.Core.Path.{◌≡◌, refl, ap, sym, ◌∙◌}
@@ -33,7 +34,6 @@ use Rattle.location.specs.Low.{Low}
 use Rattle.drive.specs.declared.Read.{Read}
 use Rattle.drive.specs.declared.Command.{Command}
 use Rattle.drive.specs.declared.Command.TheVariants.{NoOperation, Seek, SetMask, SetSector, SearchId, ReadHome, ReadRecord, SearchIdMultitrack, ReadMultitrack, Unlisted}
-use Rattle.drive.specs.declared.FileMask.TheVariants.{Set}
 use Rattle.drive.specs.Arguments.{ArgumentIn, ArgumentByte}
 use Rattle.drive.specs.Drive as Abstract
 use Rattle.drive.specs.Step as Step
@@ -167,7 +167,7 @@ module _ (l : Location) (c : Ccw) (d : Abstract.Drive) (r : Answer) where
     unfolding Step.plan_mask Step.refuse
     mask_wrong h e = λ st. pick_false _ _ (and_second (not (Step.is_set d.mask)) h) ∙ ap Step.answer (e st)
 
-    pub mask_done : {to : Location} {x : Abstract.Drive} → Step.is_set d.mask ≡ false → Step.settable m ≡ true → to ≡ next l → x ≡ Abstract.at_index d.at (Set m)
+    pub mask_done : {to : Location} {x : Abstract.Drive} → Step.is_set d.mask ≡ false → Step.settable m ≡ true → to ≡ next l → x ≡ Abstract.at_index d.at (Some m)
         → Answers (Step.onward l to c 0 x) r → Plans (λ st. Step.plan_mask l c d st m) r
     unfolding Step.plan_mask
     mask_done h g f k e = λ st. pick_true _ _ (and_both (ap not h) g) ∙ done_with _ _ _ _ f k e st

@@ -16,7 +16,6 @@ ghost use Rattle.control.specs.Control.{Plans, ArgumentWord, Seeks, Performs, Pe
 use address::{Address, Model};
 use channel::{Ccw, Location};
 use command::{Answer, Check};
-use drive::FileMask;
 use position::Drive;
 
 // Whether a control or search command has the count that it must have, and no CD.
@@ -44,14 +43,14 @@ pub fn no_operation(image: &[u8], l: Location, c: Ccw, d: Drive) -> Answer
 }
 
 // Whether the mask forbids seeks: bits 3 and 4.
-fn protects(mask: FileMask) -> bool
+fn protects(mask: Option<u8>) -> bool
     ensures { result ≡ Step.protects mask }
 {
     match mask {
-        FileMask::Unset => {
+        None => {
             return false;
         }
-        FileMask::Set(m) => {
+        Some(m) => {
             if base::bit(m, 3) {
                 return true;
             }
@@ -126,12 +125,12 @@ pub fn seek(
     seek_to(m, image, zero, a, l, c, d)
 }
 
-fn is_set(mask: FileMask) -> bool
+fn is_set(mask: Option<u8>) -> bool
     ensures { result ≡ Step.is_set mask }
 {
     match mask {
-        FileMask::Unset => false,
-        FileMask::Set(_) => true,
+        None => false,
+        Some(_) => true,
     }
 }
 

@@ -1,27 +1,15 @@
 -- Lists behind a copy, and behind a lent part.
---   one_more            one byte more at the front
 --   filled              the front of what was filled
 --   tail_lent           what is lent as `&mut x[a..]`
 --   tail_home           the whole after such a part comes home
 --   put_home            the whole after a copy to the front of such a part
-use Prim.Native.Nat.{ℕ, zero, suc, ◌+◌, ◌-◌, ◌<◌}
-use native.Mathlib.Nat.{not-suc-le-zero, le_of_suc-le-suc}
-use native.Mathlib.Numerals.{add-one}
+use Prim.Native.Nat.{ℕ, ◌+◌, ◌-◌}
 use native.Mathlib.Omega.{arith}
-use mathlib.Core.Path.{◌≡◌, refl, ap, ◌∙◌}
-use mathlib.Core.List.{List, [], ◌∷◌, ◌++◌, append-nil}
-use lib.ListN.{length, take, drop, get_or, set, length-drop, drop_of_length-le}
+use mathlib.Core.Path.{◌≡◌, ap, ◌∙◌}
+use mathlib.Core.List.{List, ◌++◌, append-nil}
+use lib.ListN.{length, take, drop, length-drop, drop_of_length-le}
 use lib.Seq.{take_all, drop-drop, take-append_seam}
 use borrow.Rule.Slice.PartMut.{mid_of, put_mid}
-
-one_more_suc : (s d : List ℕ) (i : ℕ) → i < length s → i < length d → set (take i s ++ drop i d) i (get_or s i 0) ≡ take (suc i) s ++ drop (suc i) d
-one_more_suc [] d i h g = absurd (not-suc-le-zero h)
-one_more_suc (x ∷ xs) [] i h g = absurd (not-suc-le-zero g)
-one_more_suc (x ∷ xs) (y ∷ ys) zero h g = refl
-one_more_suc (x ∷ xs) (y ∷ ys) (suc i) h g = ap (λ (l : List ℕ). x ∷ l) (one_more_suc xs ys i (le_of_suc-le-suc h) (le_of_suc-le-suc g))
-
-pub one_more : (s d : List ℕ) (i : ℕ) → i < length s → i < length d → set (take i s ++ drop i d) i (get_or s i 0) ≡ take (i + 1) s ++ drop (i + 1) d
-one_more s d i h g = one_more_suc s d i h g ∙ rw add-one
 
 pub filled : (s z t : List ℕ) → t ≡ s ++ drop (length s) z → take (length s) t ≡ s
 filled s z t e = rw e (take-append_seam s (drop (length s) z))

@@ -2,11 +2,11 @@
 --   final_past       no byte past the places
 --   passes, all_pass a stretch more, of one byte and of three
 --   mended_is        the correction of a read, at three places
+use Rattle.std.specs.Prelude.{Option, Some, None}
 use Prim.Native.Nat.{ℕ, zero, suc, ◌+◌, ◌-◌, ◌<◌, ◌≤◌}
 use native.Mathlib.Omega.{arith}
 use mathlib.Core.Path.{◌≡◌, refl, ap, sym, ◌∙◌}
 use mathlib.Core.Bool.{true, false, ◌&&◌}
-use mathlib.Core.Option.{Option, none, some}
 use mathlib.Core.List.{List, [], ◌∷◌, ◌++◌}
 use lib.Dec.{eqb, ltb, leb}
 use lib.ListN.{length, take, replicate}
@@ -20,10 +20,9 @@ use Rattle.channel.proofs.Stretch.{places_under, length_places_under}
 use Rattle.drive.specs.Step.{spread}
 use Rattle.recovery.specs.Correct.{mend, same_place, overwritten, corrected}
 use Rattle.recovery.proofs.Restored.{mend_none}
-use Rattle.correction.specs.declared.Stayed.TheVariants.{At, Nowhere}
 use Rattle.correction.specs.Retraced.{final_at, stayed_of, place_of, three_stayed_of, overwrites, unless_overwritten, passed, all_passed, mended}
 
-pub final_past : (ps : List (Option ℕ)) (j : ℕ) → length ps ≤ j → final_at ps j ≡ none
+pub final_past : (ps : List (Option ℕ)) (j : ℕ) → length ps ≤ j → final_at ps j ≡ None
 unfolding final_at
 final_past [] j h = refl
 final_past (q ∷ ps) zero h = absurd (omega arith)
@@ -31,7 +30,7 @@ final_past (q ∷ ps) (suc j) h = final_past ps j (omega arith)
 
 -- a place, unless a later byte goes there
 unfoldable unless : Option ℕ → List (Option ℕ) → Option ℕ
-unless q qs = pick (overwritten q qs) none q
+unless q qs = pick (overwritten q qs) None q
 
 overwritten_append : (q : Option ℕ) (ps qs : List (Option ℕ)) → overwritten q ps ≡ false → overwritten q (ps ++ qs) ≡ overwritten q qs
 unfolding overwritten pick
@@ -46,9 +45,9 @@ unfolding overwritten pick
 overwritten_first q [] qs h = let z : ◌≡◌ {A = ℕ} 0 1 = cc in absurd (omega arith)
 overwritten_first q (p ∷ ps) qs h = split (same_place q p) (λ e. rw e) (λ e. rw e (overwritten_first q ps qs (rw e at h)))
 
-nowhere_stays : (qs : List (Option ℕ)) → unless none qs ≡ none
+nowhere_stays : (qs : List (Option ℕ)) → unless None qs ≡ None
 unfolding unless pick
-nowhere_stays qs = split (overwritten none qs) (λ e. rw e) (λ e. rw e)
+nowhere_stays qs = split (overwritten None qs) (λ e. rw e) (λ e. rw e)
 
 -- two stretches behind each other
 final_front : (ps qs : List (Option ℕ)) (j : ℕ) → j < length ps → final_at (ps ++ qs) j ≡ unless (final_at ps j) qs
@@ -56,8 +55,8 @@ unfolding final_at unless
 final_front [] qs j h = absurd (omega arith)
 final_front (p ∷ ps) qs zero h =
     split (overwritten p ps)
-    (λ e. pick_true _ _ (overwritten_first p ps qs e) ∙ sym (ap (λ q. unless q qs) (pick_true none p e) ∙ nowhere_stays qs))
-    (λ e. ap (λ b. pick b none p) (overwritten_append p ps qs e) ∙ sym (ap (λ q. unless q qs) (pick_false none p e)))
+    (λ e. pick_true _ _ (overwritten_first p ps qs e) ∙ sym (ap (λ q. unless q qs) (pick_true None p e) ∙ nowhere_stays qs))
+    (λ e. ap (λ b. pick b None p) (overwritten_append p ps qs e) ∙ sym (ap (λ q. unless q qs) (pick_false None p e)))
 final_front (p ∷ ps) qs (suc j) h = final_front ps qs j (omega arith)
 
 final_behind : (ps qs : List (Option ℕ)) (j : ℕ) → length ps ≤ j → final_at (ps ++ qs) j ≡ final_at qs (j - length ps)
@@ -72,72 +71,72 @@ module _ (c : Ccw) (s : skips c ≡ true) where
   skipped_free : (q : Option ℕ) (a n : ℕ) → overwritten q (places_under c a n) ≡ false
   unfolding overwritten places_under place_under same_place pick
   skipped_free q a zero = refl
-  skipped_free none a (suc n) = rw s (skipped_free none (a + 1) n)
-  skipped_free (some b) a (suc n) = rw s (skipped_free (some b) (a + 1) n)
+  skipped_free None a (suc n) = rw s (skipped_free None (a + 1) n)
+  skipped_free (Some b) a (suc n) = rw s (skipped_free (Some b) (a + 1) n)
 
-  skipped_nowhere : (a n j : ℕ) → final_at (places_under c a n) j ≡ none
+  skipped_nowhere : (a n j : ℕ) → final_at (places_under c a n) j ≡ None
   unfolding final_at places_under place_under pick
   skipped_nowhere a zero j = refl
-  skipped_nowhere a (suc n) zero = rw (s, skipped_free none (a + 1) n)
+  skipped_nowhere a (suc n) zero = rw (s, skipped_free None (a + 1) n)
   skipped_nowhere a (suc n) (suc j) = skipped_nowhere (a + 1) n j
 
 module _ (c : Ccw) (s : skips c ≡ false) where
-  overwritten_out : (b a n : ℕ) → (b < a → ⊥) → (a + n ≤ b → ⊥) → overwritten (some b) (places_under c a n) ≡ true
+  overwritten_out : (b a n : ℕ) → (b < a → ⊥) → (a + n ≤ b → ⊥) → overwritten (Some b) (places_under c a n) ≡ true
   unfolding overwritten places_under place_under same_place pick
   overwritten_out b a zero h g = absurd (g (omega arith))
   overwritten_out b a (suc n) h g =
       split (eqb b a) (λ e. rw (s, e))
       (λ e. let k = eqb-false b a e in rw (s, e) (overwritten_out b (a + 1) n (λ z. k (omega arith)) (λ z. g (omega arith))))
 
-  overwritten_below : (b a n : ℕ) → b < a → overwritten (some b) (places_under c a n) ≡ false
+  overwritten_below : (b a n : ℕ) → b < a → overwritten (Some b) (places_under c a n) ≡ false
   unfolding overwritten places_under place_under same_place pick
   overwritten_below b a zero h = refl
   overwritten_below b a (suc n) h = rw (s, ne_eqb b a (λ e. omega arith)) (overwritten_below b (a + 1) n (omega arith))
 
-  overwritten_above : (b a n : ℕ) → a + n ≤ b → overwritten (some b) (places_under c a n) ≡ false
+  overwritten_above : (b a n : ℕ) → a + n ≤ b → overwritten (Some b) (places_under c a n) ≡ false
   unfolding overwritten places_under place_under same_place pick
   overwritten_above b a zero h = refl
   overwritten_above b a (suc n) h = rw (s, ne_eqb b a (λ e. omega arith)) (overwritten_above b (a + 1) n (omega arith))
 
-  final_under : (a n j : ℕ) → j < n → final_at (places_under c a n) j ≡ some (a + j)
+  final_under : (a n j : ℕ) → j < n → final_at (places_under c a n) j ≡ Some (a + j)
   unfolding final_at places_under place_under pick
   final_under a zero j h = absurd (omega arith)
   final_under a (suc n) zero h =
       let e : a + 0 ≡ a = omega arith in
       rw (s, overwritten_below a (a + 1) n (omega arith), e)
-  final_under a (suc n) (suc j) h = final_under (a + 1) n j (omega arith) ∙ ap (λ (k : ℕ). some k) (omega arith)
+  final_under a (suc n) (suc j) h = final_under (a + 1) n j (omega arith) ∙ ap (λ (k : ℕ). Some k) (omega arith)
 
 -- ---- a stretch more
 
 -- by a test that came out one way
 unless_free : (q : Option ℕ) (qs : List (Option ℕ)) → overwritten q qs ≡ false → unless q qs ≡ q
 unfolding unless
-unless_free q qs e = pick_false none q e
+unless_free q qs e = pick_false None q e
 
-unless_overwritten_lem : (q : Option ℕ) (qs : List (Option ℕ)) → overwritten q qs ≡ true → unless q qs ≡ none
+unless_overwritten_lem : (q : Option ℕ) (qs : List (Option ℕ)) → overwritten q qs ≡ true → unless q qs ≡ None
 unfolding unless
-unless_overwritten_lem q qs e = pick_true none q e
+unless_overwritten_lem q qs e = pick_true None q e
 
-unless_stayed : (c : Ccw) (n : ℕ) (q : Option ℕ) → skips c ≡ false → stayed_of (unless q (places_under c c.address n)) ≡ pick (overwrites c n (stayed_of q)) Nowhere (stayed_of q)
+unless_stayed : (c : Ccw) (n : ℕ) (q : Option ℕ) → skips c ≡ false → stayed_of (unless q (places_under c c.address n)) ≡ pick (overwrites c n (stayed_of q)) None (stayed_of q)
 unfolding overwrites
-unless_stayed c n none s = ap stayed_of (nowhere_stays (places_under c c.address n)) ∙ sym (pick_false Nowhere Nowhere refl)
-unless_stayed c n (some b) s =
+unless_stayed c n None s = ap stayed_of (nowhere_stays (places_under c c.address n)) ∙ sym (pick_false None None refl)
+unless_stayed c n (Some b) s =
     split (ltb b c.address)
     (λ e.
     let k : b < c.address = ltb-true _ _ e in
-    ap stayed_of (unless_free (some b) (places_under c c.address n) (overwritten_below c s b c.address n k))
-    ∙ sym (pick_false Nowhere (At b) (rw (lt-leb c.address b k))))
+    ap stayed_of (unless_free (Some b) (places_under c c.address n) (overwritten_below c s b c.address n k))
+    ∙ sym (pick_false None (Some b) (rw (lt-leb c.address b k))))
     (λ e.
     let k : c.address ≤ b = ltb-false _ _ e in
     split (ltb b (c.address + n))
     (λ f.
     let m : b < c.address + n = ltb-true _ _ f in
-    ap stayed_of (unless_overwritten_lem (some b) (places_under c c.address n) (overwritten_out c s b c.address n (λ z. omega arith) (λ z. omega arith)))
-    ∙ sym (pick_true Nowhere (At b) (rw (le-leb c.address b k, f))))
+    ap stayed_of (unless_overwritten_lem (Some b) (places_under c c.address n) (overwritten_out c s b c.address n (λ z. omega arith) (λ z. omega arith)))
+    ∙ sym (pick_true None (Some b) (rw (le-leb c.address b k, f))))
     (λ f.
     let m : c.address + n ≤ b = ltb-false _ _ f in
-    ap stayed_of (unless_free (some b) (places_under c c.address n) (overwritten_above c s b c.address n m))
-    ∙ sym (pick_false Nowhere (At b) (and_second (leb c.address b) f))))
+    ap stayed_of (unless_free (Some b) (places_under c c.address n) (overwritten_above c s b c.address n m))
+    ∙ sym (pick_false None (Some b) (and_second (leb c.address b) f))))
 
 module _ (ps : List (Option ℕ)) (c : Ccw) (n j : ℕ) where
   abbrev qs : List (Option ℕ)
@@ -153,7 +152,7 @@ module _ (ps : List (Option ℕ)) (c : Ccw) (n j : ℕ) where
       final_behind ps qs j k ∙ skipped_nowhere c s c.address n (j - length ps) ∙ sym (final_past ps j k))
 
   passes_stored : skips c ≡ false → stayed_of (final_at (ps ++ qs) j)
-      ≡ pick (leb (length ps) j && ltb j (length ps + n)) (At (c.address + (j - length ps))) (pick (overwrites c n (stayed_of (final_at ps j))) Nowhere (stayed_of (final_at ps j)))
+      ≡ pick (leb (length ps) j && ltb j (length ps + n)) (Some (c.address + (j - length ps))) (pick (overwrites c n (stayed_of (final_at ps j))) None (stayed_of (final_at ps j)))
   unfolding overwrites
   passes_stored s =
       split (ltb j (length ps))
@@ -169,7 +168,7 @@ module _ (ps : List (Option ℕ)) (c : Ccw) (n j : ℕ) where
       (λ f.
       let m : length ps + n ≤ j = ltb-false _ _ f in
       ap stayed_of (final_behind ps qs j k ∙ final_past qs (j - length ps) (rw (length_places_under c c.address n) (omega arith)))
-      ∙ sym (pick_false _ _ (and_second (leb (length ps) j) f) ∙ rw (final_past ps j k) (pick_false Nowhere Nowhere refl))))
+      ∙ sym (pick_false _ _ (and_second (leb (length ps) j) f) ∙ rw (final_past ps j k) (pick_false None None refl))))
 
   pub passes : stayed_of (final_at (ps ++ qs) j) ≡ passed c (length ps) n j (stayed_of (final_at ps j))
   unfolding passed unless_overwritten
@@ -191,11 +190,11 @@ corrected_none (p ∷ ps) (suc m) st =
     ∙ split (overwritten p ps) (λ e. pick_true _ _ e) (λ e. pick_false _ _ e ∙ mend_none p st)
 
 -- one byte at its place, or where it stayed
-mend_final : (p : Option ℕ) (ps : List (Option ℕ)) (x : ℕ) (st : List ℕ) → pick (overwritten p ps) st (mend p x st) ≡ mend (pick (overwritten p ps) none p) x st
+mend_final : (p : Option ℕ) (ps : List (Option ℕ)) (x : ℕ) (st : List ℕ) → pick (overwritten p ps) st (mend p x st) ≡ mend (pick (overwritten p ps) None p) x st
 unfolding mend
 mend_final p ps x st =
-    split (overwritten p ps) (λ e. pick_true _ _ e ∙ sym (ap (λ q. mend q x st) (pick_true none p e)))
-    (λ e. pick_false _ _ e ∙ sym (ap (λ q. mend q x st) (pick_false none p e)))
+    split (overwritten p ps) (λ e. pick_true _ _ e ∙ sym (ap (λ q. mend q x st) (pick_true None p e)))
+    (λ e. pick_false _ _ e ∙ sym (ap (λ q. mend q x st) (pick_false None p e)))
 
 module _ (x y z : ℕ) where
   abbrev three : List (Option ℕ) → ℕ → List ℕ → List ℕ
@@ -208,12 +207,12 @@ module _ (x y z : ℕ) where
   unfolding corrected final_at mend
   corrected_three zero [] m st = refl
   corrected_three zero (p ∷ []) m st = mend_final p [] x st
-  corrected_three zero (p ∷ q ∷ []) m st = mend_final q [] y _ ∙ ap (λ s. mend (pick (overwritten q []) none q) y s) (mend_final p (q ∷ []) x st)
+  corrected_three zero (p ∷ q ∷ []) m st = mend_final q [] y _ ∙ ap (λ s. mend (pick (overwritten q []) None q) y s) (mend_final p (q ∷ []) x st)
   corrected_three zero (p ∷ q ∷ r ∷ ps) m st =
       corrected_none ps m _
       ∙ mend_final r ps z _
-      ∙ ap (λ s. mend (pick (overwritten r ps) none r) z s)
-      (mend_final q (r ∷ ps) y _ ∙ ap (λ s. mend (pick (overwritten q (r ∷ ps)) none q) y s) (mend_final p (q ∷ r ∷ ps) x st))
+      ∙ ap (λ s. mend (pick (overwritten r ps) None r) z s)
+      (mend_final q (r ∷ ps) y _ ∙ ap (λ s. mend (pick (overwritten q (r ∷ ps)) None q) y s) (mend_final p (q ∷ r ∷ ps) x st))
   corrected_three (suc k) [] m st = refl
   corrected_three (suc k) (p ∷ ps) m st =
       let one : suc k + 1 ≡ suc (k + 1) = omega arith in
@@ -230,8 +229,8 @@ corrected_take (p ∷ ps) (suc n) [] st h = refl
 corrected_take (p ∷ ps) (suc n) (x ∷ xs) st h = corrected_take ps n xs _ (omega arith)
 
 place_stayed : (q : Option ℕ) → place_of (stayed_of q) ≡ q
-place_stayed none = refl
-place_stayed (some a) = refl
+place_stayed None = refl
+place_stayed (Some a) = refl
 
 pub mended_is : (ps : List (Option ℕ)) (n k x y z : ℕ) (st : List ℕ) → length ps ≤ n
     → mended (record { stayed = three_stayed_of k ps; pattern0 = x; pattern1 = y; pattern2 = z }) st ≡ corrected ps (spread n k (x ∷ y ∷ z ∷ [])) st

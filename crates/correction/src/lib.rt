@@ -9,21 +9,14 @@ ghost use Rattle.channel.specs.Fetch.{InBytes, Inside};
 ghost use Rattle.recovery.specs.Correct.{mend};
 ghost use Rattle.correction.specs.Retraced.{place_of, Retraces, NextUsable, Usable, unless_overwritten, passed, all_passed, nowhere, mended, nothing};
 
-use channel::{Ccw, Fetched, Location};
-
-// Where a byte of the read stayed in storage, if it did.
-#[derive(Clone, Copy)]
-pub enum Stayed {
-    At(usize),
-    Nowhere,
-}
+use channel::{Ccw, Location};
 
 // Of three bytes that follow each other.
 #[derive(Clone, Copy)]
 pub struct ThreeStayed {
-    pub first: Stayed,
-    pub second: Stayed,
-    pub third: Stayed,
+    pub first: Option<usize>,
+    pub second: Option<usize>,
+    pub third: Option<usize>,
 }
 
 // Where a data chain ended: its last CCW, the count left there, whether bytes were left over, and where three bytes stayed.
@@ -36,13 +29,6 @@ pub struct End {
     pub stayed: ThreeStayed,
 }
 
-// How the data chain ended, or a program check.
-#[derive(Clone, Copy)]
-pub enum Retraced {
-    Ended(End),
-    Checked,
-}
-
 // A correction of storage: where three bytes stayed, and the pattern byte of each.
 #[derive(Clone, Copy)]
 pub struct Correction {
@@ -53,25 +39,25 @@ pub struct Correction {
 }
 
 // A place, unless one of the n bytes under a CCW went there.
-fn unless_overwritten(q: Stayed, c: Ccw, n: usize) -> Stayed
+fn unless_overwritten(q: Option<usize>, c: Ccw, n: usize) -> Option<usize>
     requires in_bytes { InBytes c }
     requires n_bound { n ≤ 65536 }
     ensures { result ≡ unless_overwritten c n q }
 {
-    let Stayed::At(a) = q else {
-        return Stayed::Nowhere;
+    let Some(a) = q else {
+        return None;
     };
     if a < c.address {
-        return Stayed::At(a);
+        return Some(a);
     }
     if a < c.address + n {
-        return Stayed::Nowhere;
+        return None;
     }
-    Stayed::At(a)
+    Some(a)
 }
 
 // Where byte j stands behind the n bytes under one CCW, of which the first is byte `from` of the read.
-fn pass(q: Stayed, j: usize, c: Ccw, from: usize, n: usize) -> Stayed
+fn pass(q: Option<usize>, j: usize, c: Ccw, from: usize, n: usize) -> Option<usize>
     requires in_bytes { InBytes c }
     requires n_bound { from + n ≤ 65536 }
     ensures { result ≡ passed c from n j q }
@@ -83,7 +69,7 @@ fn pass(q: Stayed, j: usize, c: Ccw, from: usize, n: usize) -> Stayed
         return unless_overwritten(q, c, n);
     }
     if j < from + n {
-        return Stayed::At(c.address + (j - from));
+        return Some(c.address + (j - from));
     }
     unless_overwritten(q, c, n)
 }
@@ -110,9 +96,9 @@ fn nowhere() -> ThreeStayed
     ensures { result ≡ nowhere }
 {
     ThreeStayed {
-        first: Stayed::Nowhere,
-        second: Stayed::Nowhere,
-        third: Stayed::Nowhere,
+        first: None,
+        second: None,
+        third: None,
     }
 }
 
@@ -139,24 +125,24 @@ pub fn last_of(c: Ccw, more: usize) -> bool
 }
 
 // The CCW behind the one at l, if a read may use it with storage of `size` bytes.
-pub fn next_usable(chain: &[u8], size: usize, l: Location) -> Fetched
+pub fn next_usable(chain: &[u8], size: usize, l: Location) -> Result<(Location, Ccw), Location>
     requires { Inside chain.now [] l }
     ensures next_usable { NextUsable chain.now size l result }
     ensures usable { Usable chain.now size result }
 {
     match channel::resolve(chain, &chain[..0], l, location::next(l)) {
-        Fetched::Broken(x) => Fetched::Broken(x),
-        Fetched::Got(x, c) => {
+        Err(x) => Err(x),
+        Ok((x, c)) => {
             if c.readable(size) {
-                return Fetched::Got(x, c);
+                return Ok((x, c));
             }
-            return Fetched::Broken(x);
+            return Err(x);
         }
     }
 }
 
 // A read of n bytes whose first CCW, which a read may use with storage of `size` bytes, is c at l; and its bytes k to k + 2.
-pub fn retrace(chain: &[u8], size: usize, l: Location, c: Ccw, n: usize, k: usize) -> Retraced
+pub fn retrace(chain: &[u8], size: usize, l: Location, c: Ccw, n: usize, k: usize) -> Option<End>
     requires inside { Inside chain.now [] l }
     requires in_bytes { InBytes c }
     requires c_value { readable size c ≡ true }
@@ -173,7 +159,7 @@ pub fn retrace(chain: &[u8], size: usize, l: Location, c: Ccw, n: usize, k: usiz
         let took = lesser(more, word.count);
         stayed = pass_all(stayed, k, word, from, took);
         if last_of(word, more) {
-            return Retraced::Ended(End {
+            return Some(End {
                 at: here,
                 ccw: word,
                 left: word.count - took,
@@ -183,10 +169,10 @@ pub fn retrace(chain: &[u8], size: usize, l: Location, c: Ccw, n: usize, k: usiz
         }
         from += took;
         match next_usable(chain, size, here) {
-            Fetched::Broken(_) => {
-                return Retraced::Checked;
+            Err(_) => {
+                return None;
             }
-            Fetched::Got(x, e) => {
+            Ok((x, e)) => {
                 here = x;
                 word = e;
             }
@@ -197,14 +183,14 @@ pub fn retrace(chain: &[u8], size: usize, l: Location, c: Ccw, n: usize, k: usiz
 // ---- the correction
 
 // A pattern byte into the byte that stayed at a place.
-fn mend_at(storage: &mut [u8], q: Stayed, x: u8)
+fn mend_at(storage: &mut [u8], q: Option<usize>, x: u8)
     ensures { storage.new ≡ mend (place_of q) x storage.old }
 {
     match q {
-        Stayed::At(a) => {
+        Some(a) => {
             base::exclusive_or(storage, a, x);
         }
-        Stayed::Nowhere => {}
+        None => {}
     }
 }
 

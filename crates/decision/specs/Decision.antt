@@ -1,11 +1,10 @@
 -- What a decision means: the answer of recovery, and the areas behind it.
-use Rattle.std.specs.Prelude.{ℕ, ◌<◌, ◌≡◌, List, [], length}
+use Rattle.std.specs.Prelude.{ℕ, ◌<◌, ◌≡◌, List, [], length, Option}
 use Rattle.base.specs.Choice.{pick}
 use Rattle.address.specs.declared.Address.{Address}
 use Rattle.address.specs.declared.Extent.{Extent}
 use Rattle.address.specs.Model.{last_of}
 use Rattle.channel.specs.Fetch.{InBytes}
-use Rattle.drive.specs.declared.FileMask.{FileMask}
 use Rattle.restart.specs.declared.ReadCount.{ReadCount}
 use Rattle.restart.specs.Restart.{ccw_bytes, program_of, search_program, overflow_program, restart_arguments_of, search_arguments}
 use Rattle.restart_areas.specs.Placed.{TicLow}
@@ -41,12 +40,12 @@ orientation_of TenA counts = Home
 orientation_of Eleven counts = Home
 
 -- the program, by how it comes to its record
-unfoldable pub program_by : Orientation → FileMask → ℕ → List ℕ
+unfoldable pub program_by : Orientation → Option ℕ → ℕ → List ℕ
 program_by (Search counts) m to = search_program m counts to
 program_by Home m to = program_of m (ccw_bytes 0x1a 0 0x50 5) to
 
 -- the arguments likewise
-unfoldable pub arguments_by : Orientation → Address → FileMask → (sector number : ℕ) → List ℕ
+unfoldable pub arguments_by : Orientation → Address → Option ℕ → (sector number : ℕ) → List ℕ
 arguments_by (Search counts) a m sector number = search_arguments a m sector number
 arguments_by Home a m sector number = restart_arguments_of a m 0 []
 

@@ -9,9 +9,8 @@ ghost use Rattle.decision.specs.Decision.{orientation_of, program_for, arguments
 use address::{Address, Extent};
 use channel::Ccw;
 use correction::Correction;
-use drive::FileMask;
 use recovered::{Kind, Recovered};
-use restart::{LastTic, ReadCount};
+use restart::ReadCount;
 
 // How a restart comes to its record: by a search for its ID, with the read count behind it; or from the home address on.
 #[derive(Clone, Copy)]
@@ -25,7 +24,7 @@ pub enum Orientation {
 pub struct RestartPlan {
     pub to: usize,
     pub track: Address,
-    pub mask: FileMask,
+    pub mask: Option<u8>,
     pub kind: Kind,
     pub counts: ReadCount,
     pub sector: u8,
@@ -36,10 +35,10 @@ pub struct RestartPlan {
 #[derive(Clone, Copy)]
 pub struct OverflowPlan {
     pub track: Address,
-    pub mask: FileMask,
+    pub mask: Option<u8>,
     pub kind: Kind,
     pub first: Ccw,
-    pub tic: LastTic,
+    pub tic: Option<usize>,
 }
 
 // What is to be done: an answer and nothing written; an answer, and storage corrected; a restart, and storage corrected; a restart

@@ -1,9 +1,9 @@
 -- DEMAND 3: `demand_three`.
+use Rattle.std.specs.Prelude.{Option, Some, None}
 use Prim.Native.Nat.{ℕ, zero, suc}
 use native.Mathlib.Omega.{arith}
 use mathlib.Core.Path.{◌≡◌, refl, ◌∙◌}
 use mathlib.Core.Bool.{Bool, true, false}
-use mathlib.Core.Option.{Option, none, some}
 use mathlib.Core.List.{List, [], ◌∷◌}
 use Rattle.base.specs.Choice.{pick, opt}
 use Rattle.base.proofs.Choice.{split}
@@ -32,10 +32,10 @@ each_inside x [] h = tt
 each_inside x (r ∷ rs) h = (h.0, each_inside x rs h.1)
 
 -- a data area is marked where it is named
-marked_if : (f : Area → Bool) → ((a : Area) → f a ≡ opt (name_if a) false (λ h. true)) → (o : Option Area) → opt o false f ≡ opt (opt o none name_if) false (λ h. true)
+marked_if : (f : Area → Bool) → ((a : Area) → f a ≡ opt (name_if a) false (λ h. true)) → (o : Option Area) → opt o false f ≡ opt (opt o None name_if) false (λ h. true)
 unfolding opt
-marked_if f h none = refl
-marked_if f h (some a) = h a
+marked_if f h None = refl
+marked_if f h (Some a) = h a
 
 module _ (g : Lending) (e : End) (b : Begins g) (p : Provided g e) where
   abbrev w : Setting

@@ -1,4 +1,5 @@
 -- Demand 3's exception in document 02's words: `same_but_for_the_count`.
+use Rattle.std.specs.Prelude.{Result, Ok, Err}
 use Prim.Native.Nat.{ℕ, zero, suc}
 use native.Mathlib.Omega.{arith}
 use mathlib.Core.Path.{◌≡◌, refl, ap, sym}
@@ -14,8 +15,6 @@ use Rattle.abstract_machine.proofs.Run.{LastTwo, last_two}
 use Rattle.channel.specs.declared.Ccw.{Ccw}
 use Rattle.channel.specs.declared.Location.{Location}
 use Rattle.channel.specs.declared.Location.TheVariants.{Chain}
-use Rattle.channel.specs.declared.Fetched.{Fetched}
-use Rattle.channel.specs.declared.Fetched.TheVariants.{Got, Broken}
 use Rattle.channel.specs.Ccw.{resolve}
 use Rattle.channel.specs.Csw.{csw_at}
 use Rattle.drive.specs.declared.Command.{Command}
@@ -92,11 +91,11 @@ module _ (g : Lending) (e : End) (good : e.csw.channel ≡ 0x20 → ⊥) (t : La
   abbrev s : State
   s = t.second
 
-  marked : (f : Fetched) → resolve w.lent s.last s.at ≡ f → step_fails w s.drive f ≡ true
+  marked : (f : Result (Location × Ccw) Location) → resolve w.lent s.last s.at ≡ f → step_fails w s.drive f ≡ true
   unfolding ends_by_step
   marked f q = rw q at t.marked_second
 
-  carried : (l : Location) (c : Ccw) → resolve w.lent s.last s.at ≡ Got l c → Step.carry [] s.storage (Step.execute w l c s.drive s.storage) ≡ ends e
+  carried : (l : Location) (c : Ccw) → resolve w.lent s.last s.at ≡ Ok (l, c) → Step.carry [] s.storage (Step.execute w l c s.drive s.storage) ≡ ends e
   unfolding step plan Step.dispatch
   carried l c q = rw q at t.ends_it
 
@@ -104,13 +103,13 @@ module _ (g : Lending) (e : End) (good : e.csw.channel ≡ 0x20 → ⊥) (t : La
   unfolding step_fails is_failed
   last_step = by (resolve w.lent s.last s.at) refl (Step.take_from w.pack true s.drive) refl
     where
-      by : (f : Fetched) → resolve w.lent s.last s.at ≡ f → (r : Reached) → Step.take_from w.pack true s.drive ≡ r → LastStep g e
-      by (Broken l) q r z = let v = marked (Broken l) q in let x : ◌≡◌ {A = ℕ} 0 1 = cc in absurd (omega arith)
-      by (Got l c) q (reaches y) z =
-          let v : false ≡ true = rw z at (and_right (is_multitrack_data c.command) _ (marked (Got l c) q)) in
+      by : (f : Result (Location × Ccw) Location) → resolve w.lent s.last s.at ≡ f → (r : Reached) → Step.take_from w.pack true s.drive ≡ r → LastStep g e
+      by (Err l) q r z = let v = marked (Err l) q in let x : ◌≡◌ {A = ℕ} 0 1 = cc in absurd (omega arith)
+      by (Ok (l, c)) q (reaches y) z =
+          let v : false ≡ true = rw z at (and_right (is_multitrack_data c.command) _ (marked (Ok (l, c)) q)) in
           let x : ◌≡◌ {A = ℕ} 0 1 = cc in absurd (omega arith)
-      by (Got l c) q (fails k) z =
-          let code = and_left (is_multitrack_data c.command) _ (marked (Got l c) q) in
+      by (Ok (l, c)) q (fails k) z =
+          let code = and_left (is_multitrack_data c.command) _ (marked (Ok (l, c)) q) in
           record {
             before = t.first;
             last = s;

@@ -1,10 +1,10 @@
 -- Recovery from the report of a cut that the trial drive made: what its sense bytes say (`restart_is` to `sector_is`), questions 6 to 8 are answered
 -- with yes (`to_five`, `format_is`), 9 but for the next CCW (`comes_to`), and storage comes out as the faultless read leaves it.
+use Rattle.std.specs.Prelude.{Option, Some, Ok}
 use Prim.Native.Nat.{ℕ, ◌+◌, ◌-◌, ◌≤◌}
 use native.Mathlib.Omega.{arith}
 use mathlib.Core.Path.{◌≡◌, refl, ap, ap₂, sym, ◌∙◌}
 use mathlib.Core.Bool.{Bool, true, false, ◌||◌, not}
-use mathlib.Core.Option.{Option, some}
 use mathlib.Core.List.{List, [], ◌∷◌, ◌++◌}
 use lib.ListN.{length, get_or, take}
 use lib.Seq.{take-append_seam}
@@ -19,7 +19,6 @@ use Rattle.faults.specs.Faults.{Fault}
 use Rattle.channel.specs.declared.Ccw.{Ccw}
 use Rattle.channel.specs.declared.Location.{Location}
 use Rattle.channel.specs.declared.Location.TheVariants.{Chain, Restart}
-use Rattle.channel.specs.declared.Fetched.TheVariants.{Got}
 use Rattle.channel.specs.Ccw.{Lent, chains_command, address_of, next, fetch_in, fetch, resolve}
 use Rattle.channel.specs.Store.{store}
 use Rattle.channel.specs.Walk.{Walk, walked, checked, incorrect_length}
@@ -29,7 +28,6 @@ use Rattle.channel.proofs.Walks.{Short, short_walked}
 use Rattle.drive.specs.declared.Read.{Read}
 use Rattle.drive.specs.declared.Command.{Command}
 use Rattle.drive.specs.declared.Command.TheVariants.{ReadRecord, ReadMultitrack, NoOperation, ReadHome, SearchId, SearchIdMultitrack, Seek, SetMask, SetSector, Unlisted}
-use Rattle.drive.specs.declared.FileMask.{FileMask}
 use Rattle.drive.specs.Command.{command_of}
 use Rattle.drive.specs.Drive.{address_bytes}
 use Rattle.channel.specs.Csw.{csw_at}
@@ -50,7 +48,7 @@ module _ (k : Cut) where
   abbrev r : Report
   r = report_of k
 
-  action_is : Table.action_for Table.rows r.sense ≡ some 5
+  action_is : Table.action_for Table.rows r.sense ≡ Some 5
   unfolding report_of cut_sense Table.action_for Table.rows Table.fits Table.covers pick
   action_is = refl
 
@@ -114,13 +112,13 @@ module _ (g : Given) (r : Report) (st : List ℕ) (ps : List (Option ℕ)) (l : 
   unfolding after_walk pick
   after_end e = rw (calm, e)
 
-  after_on : (wrong || not (chains_command c)) ≡ false → (to : ℕ) (d : Ccw) → resolve (only_chain g.chain) l (next l) ≡ Got (Chain to) d
+  after_on : (wrong || not (chains_command c)) ≡ false → (to : ℕ) (d : Ccw) → resolve (only_chain g.chain) l (next l) ≡ Ok (Chain to, d)
       → after_walk g r st ps l c wrong ≡ search_restart g r st ps to d
   unfolding after_walk on_next pick
   after_on e to d q = rw (calm, e, q)
 
 -- the restart of action 5, by what the report says
-build_is : (g : Given) (r : Report) (st : List ℕ) (ps : List (Option ℕ)) (to : ℕ) (d : Ccw) {a : Address} {m : FileMask} {sector n : ℕ} {after : List ℕ}
+build_is : (g : Given) (r : Report) (st : List ℕ) (ps : List (Option ℕ)) (to : ℕ) (d : Ccw) {a : Address} {m : Option ℕ} {sector n : ℕ} {after : List ℕ}
     → seek_allowed g a ≡ true → cut_track r.sense ≡ a → r.mask ≡ m → get_or r.sense 13 0 ≡ sector → get_or r.sense 12 0 ≡ n → correction r.sense ps st ≡ after
     → search_restart g r st ps to d
     ≡ restarts (pick (bit_on 3 d.command) five five_a) (search_program m (count_for d.command) to) (search_arguments a m sector n) after
@@ -133,7 +131,7 @@ unfolding address_of
 chain_address (Chain a) h = refl
 chain_address (Restart a) h = absurd h
 
-chain_fetch : (p : Lent) (l : Location) → InChain l → (c : Ccw) → fetch p l ≡ some c → fetch_in p.chain (address_of l) ≡ some c
+chain_fetch : (p : Lent) (l : Location) → InChain l → (c : Ccw) → fetch p l ≡ Some c → fetch_in p.chain (address_of l) ≡ Some c
 unfolding address_of fetch
 chain_fetch p (Chain a) h c e = e
 chain_fetch p (Restart a) h c e = absurd h
@@ -202,7 +200,7 @@ module _ (w : Setting) (s : State) (t : Transfer) (y : Record) (f : Fault) (ps :
       ∙ sym gen.from.walk_is ∙ gen.walk_is)
 
   -- the read's first CCW is found again, and reads a data area
-  fetches : fetch_in g.chain report.first ≡ some first_ccw
+  fetches : fetch_in g.chain report.first ≡ Some first_ccw
   unfolding report_of
   fetches = rw chain_is (chain_fetch w.lent t.first in_chain first_ccw (Origin.ccw_fetched w s t gen.from).0)
 
@@ -243,7 +241,7 @@ module _ (w : Setting) (s : State) (t : Transfer) (y : Record) (f : Fault) (ps :
         → recover g report k.storage ≡ finished (csw_at z 0x0c (length_status (incorrect_length c left over)) left) (store ps t.bytes s.storage)
     finishes e = comes_to ∙ after_end g report k.storage ps z c (incorrect_length c left over) calm_report e ∙ ap₂ finished status_is corrects
 
-    pub restarts_with : (incorrect_length c left over || not (chains_command c)) ≡ false → (to : ℕ) (d : Ccw) → resolve (only_chain g.chain) z (next z) ≡ Got (Chain to) d
+    pub restarts_with : (incorrect_length c left over || not (chains_command c)) ≡ false → (to : ℕ) (d : Ccw) → resolve (only_chain g.chain) z (next z) ≡ Ok (Chain to, d)
         → seek_allowed g y.at ≡ true
         → recover g report k.storage
         ≡ restarts (pick (bit_on 3 d.command) five five_a) (search_program t.after.mask (count_for d.command) to)

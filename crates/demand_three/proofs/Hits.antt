@@ -3,11 +3,11 @@
 --   flags_are      along the faultless run they are the faulted areas of demand 3
 --   unflagged      where there is none, the fault list changes nothing
 --   Hit, hit       what is known where there is one
+use Rattle.std.specs.Prelude.{Option, Some, None}
 use Prim.Native.Nat.{ℕ, zero, suc, ◌≤◌, ◌<◌}
 use native.Mathlib.Omega.{arith}
 use mathlib.Core.Path.{◌≡◌, refl, ap, ap₂, sym, ◌∙◌}
 use mathlib.Core.Bool.{true, false, ◌&&◌}
-use mathlib.Core.Option.{Option, none, some}
 use mathlib.Core.List.{List, [], ◌∷◌}
 use lib.Dec.{eqb}
 use lib.ListN.{length, get_or}
@@ -40,7 +40,7 @@ abbrev name_of : Area → Named
 name_of a = record { at = a.at; r = a.r }
 
 unfoldable pub name_if : Area → Option Named
-name_if a = pick a.faulted (some (record { at = a.at; r = a.r })) none
+name_if a = pick a.faulted (Some (record { at = a.at; r = a.r })) None
 
 ones_filtered : (as' : List Area) → filtered name_if as' ≡ faulted_ones as'
 unfolding filtered name_if faulted_ones pick opt
@@ -49,37 +49,37 @@ ones_filtered (a ∷ rest) = split a.faulted (λ e. rw (e, ones_filtered rest)) 
 
 module _ (fs : List Fault) (w : Setting) where
   unfoldable pub flag : State → Option Named
-  flag s = opt (area_in fs (plan w s)) none name_if
+  flag s = opt (area_in fs (plan w s)) None name_if
 
   pub flags_are : (n : ℕ) (s : State) → notes (step [] w) flag n s ≡ faulted_ones (notes (step [] w) (λ t. area_in fs (plan w t)) n s)
   unfolding flag
   flags_are n s = notes_filtered (step [] w) (λ t. area_in fs (plan w t)) flag name_if (λ t. refl) n s ∙ ones_filtered (notes (step [] w) (λ t. area_in fs (plan w t)) n s)
 
-  pub unflagged : (s : State) → flag s ≡ none → step fs w s ≡ step [] w s
+  pub unflagged : (s : State) → flag s ≡ None → step fs w s ≡ step [] w s
   unfolding flag name_if opt pick
   unflagged s h = Steps.unnamed fs w s (by (area_in fs (plan w s)) refl)
     where
       by : (o : Option Area) → area_in fs (plan w s) ≡ o → Steps.faulted_in fs (plan w s) ≡ false
-      by none q = Steps.faulted_in_none fs (plan w s) q
-      by (some a) q =
+      by None q = Steps.faulted_in_none fs (plan w s) q
+      by (Some a) q =
           Steps.faulted_in_some fs (plan w s) a q
-          ∙ split a.faulted (λ e. let v : ◌≡◌ {A = Option Named} (some (record { at = a.at; r = a.r })) none = rw (q, e) at h in let z : ◌≡◌ {A = ℕ} 0 1 = cc in absurd (omega arith)) (λ e. e)
+          ∙ split a.faulted (λ e. let v : ◌≡◌ {A = Option Named} (Some (record { at = a.at; r = a.r })) None = rw (q, e) at h in let z : ◌≡◌ {A = ℕ} 0 1 = cc in absurd (omega arith)) (λ e. e)
 
   -- a flag comes from a transfer of a record that the list names
-  pub flagged : (s : State) (h : Named) → flag s ≡ some h → (n : Steps.Named fs (plan w s)) × (h ≡ record { at = n.taken.at; r = n.taken.r })
+  pub flagged : (s : State) (h : Named) → flag s ≡ Some h → (n : Steps.Named fs (plan w s)) × (h ≡ record { at = n.taken.at; r = n.taken.r })
   unfolding flag name_if opt pick
   flagged s h e = by (area_in fs (plan w s)) refl
     where
       by : (o : Option Area) → area_in fs (plan w s) ≡ o → (n : Steps.Named fs (plan w s)) × (h ≡ record { at = n.taken.at; r = n.taken.r })
-      by none q = let v : ◌≡◌ {A = Option Named} none (some h) = rw q at e in let z : ◌≡◌ {A = ℕ} 0 1 = cc in absurd (omega arith)
-      by (some a) q =
+      by None q = let v : ◌≡◌ {A = Option Named} None (Some h) = rw q at e in let z : ◌≡◌ {A = ℕ} 0 1 = cc in absurd (omega arith)
+      by (Some a) q =
           split a.faulted
           (λ u.
           let n = Steps.named fs (plan w s) (Steps.faulted_in_some fs (plan w s) a q ∙ u) in
-          let v : ◌≡◌ {A = Option Named} (some (record { at = a.at; r = a.r })) (some h) = rw (q, u) at e in
+          let v : ◌≡◌ {A = Option Named} (Some (record { at = a.at; r = a.r })) (Some h) = rw (q, u) at e in
           let m = some_is (sym q ∙ Steps.named_area fs (plan w s) n) in
           (n, sym (some_is v) ∙ ap name_of m))
-          (λ u. let v : ◌≡◌ {A = Option Named} none (some h) = rw (q, u) at e in let z : ◌≡◌ {A = ℕ} 0 1 = cc in absurd (omega arith))
+          (λ u. let v : ◌≡◌ {A = Option Named} None (Some h) = rw (q, u) at e in let z : ◌≡◌ {A = ℕ} 0 1 = cc in absurd (omega arith))
 
 -- ---- in a reading that may begin
 
@@ -90,12 +90,12 @@ pub record Hit (g : Lending) (s : State) (h : Named) : Type 0 where
   pub f : Fault
   pub planned : plan (setting_of g) s ≡ moves t
   pub area_is : t.area ≡ data_of y
-  pub named : naming g.faults y.at y.r ≡ some f
+  pub named : naming g.faults y.at y.r ≡ Some f
   pub name_is : h ≡ record { at = y.at; r = y.r }
   pub from : Origin.From (setting_of g) s t
   pub track : Track
   pub place : ℕ
-  pub there : track_in (pack_of g.image) y.at ≡ some track
+  pub there : track_in (pack_of g.image) y.at ≡ Some track
   pub reached : Drive
   pub reached_at : reached.at ≡ y.at
   pub after_is : t.after ≡ Drive.moved_past reached place false 0
@@ -112,7 +112,7 @@ pub record Hit (g : Lending) (s : State) (h : Named) : Type 0 where
   pub three : length f.pattern ≡ 3
   pub inside : within (extent_of g.model g.extent) y.at ≡ true
 
-all_inside_lem : (x : Extent) (fs : List Fault) → all_inside x fs ≡ true → (a : Address) (r : ℕ) (f : Fault) → naming fs a r ≡ some f → within x f.at ≡ true
+all_inside_lem : (x : Extent) (fs : List Fault) → all_inside x fs ≡ true → (a : Address) (r : ℕ) (f : Fault) → naming fs a r ≡ Some f → within x f.at ≡ true
 unfolding all_inside naming pick
 all_inside_lem x [] h a r f e = let z : ◌≡◌ {A = ℕ} 0 1 = cc in absurd (omega arith)
 all_inside_lem x (k ∷ fs) h a r f e =
@@ -140,8 +140,8 @@ module _ (g : Lending) (b : Begins g) (inside : all_inside (extent_of g.model g.
   abbrev w : Setting
   w = setting_of g
 
-  module _ (t : Transfer) (y : Record) (f : Fault) (named : naming g.faults y.at y.r ≡ some f) (c : Ccw) (T : Origin.Taken w s c y t.bytes t.after) where
-    track_there : track_in (pack_of g.image) T.reached.at ≡ some T.track
+  module _ (t : Transfer) (y : Record) (f : Fault) (named : naming g.faults y.at y.r ≡ Some f) (c : Ccw) (T : Origin.Taken w s c y t.bytes t.after) where
+    track_there : track_in (pack_of g.image) T.reached.at ≡ Some T.track
     unfolding setting_of
     track_there = T.track_is
 
@@ -170,11 +170,11 @@ module _ (g : Lending) (b : Begins g) (inside : all_inside (extent_of g.model g.
     found_is : fault_sound.2.taken ≡ y
     unfolding record_in opt
     found_is =
-        let e : record_in (pack_of g.image) y.at y.r ≡ some fault_sound.2.taken =
+        let e : record_in (pack_of g.image) y.at y.r ≡ Some fault_sound.2.taken =
         ap₂ (record_in (pack_of g.image)) (sym fault_sound.0) (sym fault_sound.1) ∙ fault_sound.2.there in
-        let u : track_in (pack_of g.image) y.at ≡ some T.track = rw at_is at track_there in
-        let n : numbered T.track.records y.r ≡ some y = rw T.record_is at (number_finds T.track.at T.track.records parts.2 T.place no_record T.below) in
-        let v : some y ≡ some fault_sound.2.taken = rw (u, n) at e in
+        let u : track_in (pack_of g.image) y.at ≡ Some T.track = rw at_is at track_there in
+        let n : numbered T.track.records y.r ≡ Some y = rw T.record_is at (number_finds T.track.at T.track.records parts.2 T.place no_record T.below) in
+        let v : Some y ≡ Some fault_sound.2.taken = rw (u, n) at e in
         sym (some_is v)
 
     in_data : f.displacement ≤ length y.body
@@ -210,7 +210,7 @@ module _ (g : Lending) (b : Begins g) (inside : all_inside (extent_of g.model g.
       inside = rw fault_sound.0 at (all_inside_lem (extent_of g.model g.extent) g.faults inside y.at y.r f named);
     }
 
-  pub hit : (h : Named) → flag g.faults w s ≡ some h → Hit g s h
+  pub hit : (h : Named) → flag g.faults w s ≡ Some h → Hit g s h
   hit h e = by (flagged g.faults w s h e).0 (flagged g.faults w s h e).1
     where
       by : (n : Steps.Named g.faults (plan w s)) → h ≡ record { at = n.taken.at; r = n.taken.r } → Hit g s h

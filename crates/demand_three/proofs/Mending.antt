@@ -6,11 +6,11 @@
 --   Fine                         what holds before each command of the faultless run
 --   closes                       a cut where the faultless run ends
 --   goes_on                      a cut where it goes on
+use Rattle.std.specs.Prelude.{Option, Some, None, Result, Ok, Err}
 use Prim.Native.Nat.{ℕ, zero, suc, ◌+◌, ◌-◌, ◌%◌, ◌≤◌}
 use native.Mathlib.Omega.{arith}
 use mathlib.Core.Path.{◌≡◌, refl, ap, sym, ◌∙◌}
 use mathlib.Core.Bool.{Bool, true, false, ◌&&◌, ◌||◌, not}
-use mathlib.Core.Option.{Option, some}
 use mathlib.Core.List.{List, []}
 use lib.Dec.{eqb, leb}
 use lib.ListN.{length}
@@ -23,23 +23,19 @@ use Rattle.questions.specs.Areas.{chain_fits, arguments_fit, storage_fits, image
 use Rattle.address.specs.declared.Address.{Address}
 use Rattle.address.specs.Within.{extent_of}
 use Rattle.faults.specs.Faults.{Fault}
-use Rattle.abstract_machine.specs.Machine.{goes, ends, cuts, Result, ended, run}
+use Rattle.abstract_machine.specs.Machine.{goes, ends, cuts, Result as RunResult, ended, run}
 use Rattle.abstract_machine.specs.Reading.{finish, restart}
 use Rattle.abstract_machine.proofs.Run.{run_ends}
 use Rattle.abstract_machine.proofs.Whole.{Mended, Closed, Strayed, GoesOn, mended, strayed}
 use Rattle.channel.specs.declared.Ccw.{Ccw}
 use Rattle.channel.specs.declared.Location.{Location}
 use Rattle.channel.specs.declared.Location.TheVariants.{Chain, Restart}
-use Rattle.channel.specs.declared.Fetched.{Fetched}
-use Rattle.channel.specs.declared.Fetched.TheVariants.{Got, Broken}
 use Rattle.channel.specs.Ccw.{chains_command, is_tic, next, resolve}
 use Rattle.channel.specs.Store.{store}
 use Rattle.channel.specs.Walk.{Walk, walked, checked, incorrect_length}
 use Rattle.channel.proofs.InChain.{InChain, FetchedIn, next_in, resolve_in, resolve_same}
 use Rattle.channel.proofs.Walks.{resolve_got}
 use Rattle.channel.proofs.Shown.{fetched_inside}
-use Rattle.drive.specs.declared.FileMask.{FileMask}
-use Rattle.drive.specs.declared.FileMask.TheVariants.{Unset, Set}
 use Rattle.drive.specs.Drive as Drive
 use Rattle.drive.specs.Drive.{Drive, address_bytes}
 use Rattle.drive.specs.Step as Step
@@ -100,10 +96,10 @@ module _ (bs : List ℕ) (d : Drive) (st : List ℕ) (ps : List (Option ℕ)) (z
 
 -- ---- the place of the read count
 
-count_place_lem : (m : FileMask) → count_place m ≡ Commands.count_at m
+count_place_lem : (m : Option ℕ) → count_place m ≡ Commands.count_at m
 unfolding count_place
-count_place_lem Unset = refl
-count_place_lem (Set b) = refl
+count_place_lem None = refl
+count_place_lem (Some b) = refl
 
 -- ---- the lent areas
 
@@ -132,7 +128,7 @@ drive_is d e i a h q = rw (h, ← q) refl
 
 -- ---- the command that comes next, by its CCW and the drive before it
 
-module _ (w : Setting) (s : State) (l : Location) (c : Ccw) (d : Drive) (comes : resolve w.lent s.last s.at ≡ Got l c) (stands : s.drive ≡ d) where
+module _ (w : Setting) (s : State) (l : Location) (c : Ccw) (d : Drive) (comes : resolve w.lent s.last s.at ≡ Ok (l, c)) (stands : s.drive ≡ d) where
   plan_at : plan w s ≡ Step.execute w l c d s.storage
   unfolding plan Step.dispatch
   plan_at = rw (comes, stands)
@@ -155,7 +151,7 @@ checked_at l d st = record { csw = csw_at l 0 0x20 0; sense = no_sense; mask = d
 ends_is : {a b : End} → ◌≡◌ {A = Answer} (ends a) (ends b) → a ≡ b
 ends_is q = cc
 
-pub ended_is : {a b : End} → ◌≡◌ {A = Result Limit End Cut} (ended a) (ended b) → a ≡ b
+pub ended_is : {a b : End} → ◌≡◌ {A = RunResult Limit End Cut} (ended a) (ended b) → a ≡ b
 ended_is q = cc
 
 pub checked_channel : (l : Location) (d : Drive) (st : List ℕ) (e : End) → program_check l d st ≡ ends e → e.csw.channel ≡ 0x20
@@ -246,10 +242,10 @@ module _ (g : Lending) (b : Begins g) (inside : all_inside (extent_of g.model g.
       abbrev behind : State
       behind = on H.t.bytes H.t.after s.storage ps z c left over
 
-      abbrev m : FileMask
+      abbrev m : Option ℕ
       m = H.t.after.mask
 
-      module _ (more : (incorrect_length c left over || not (chains_command c)) ≡ false) (to : ℕ) (d : Ccw) (comes : resolve w.lent z (next z) ≡ Got (Chain to) d) where
+      module _ (more : (incorrect_length c left over || not (chains_command c)) ≡ false) (to : ℕ) (d : Ccw) (comes : resolve w.lent z (next z) ≡ Ok (Chain to, d)) where
         abbrev counts : ReadCount
         counts = count_for d.command
 
@@ -263,7 +259,7 @@ module _ (g : Lending) (b : Begins g) (inside : all_inside (extent_of g.model g.
         unfolding seek_allowed given_in setting_of
         allowed = rw (H.is_on_pack, H.inside)
 
-        comes_alone : resolve (only_chain given.chain) z (next z) ≡ Got (Chain to) d
+        comes_alone : resolve (only_chain given.chain) z (next z) ≡ Ok (Chain to, d)
         unfolding only_chain given_in
         comes_alone = resolve_same w.lent [] [] [] z (next z) (next_in z ends_in_chain) ∙ comes
 
@@ -297,7 +293,7 @@ module _ (g : Lending) (b : Begins g) (inside : all_inside (extent_of g.model g.
               counted = refl;
             }
 
-        may : (b : ℕ) → m ≡ Set b → settable b ≡ true
+        may : (b : ℕ) → m ≡ Some b → settable b ≡ true
         may = Origin.legal_set m (rw H.from.mask_is fine.legal_mask)
 
         abbrev used : ℕ
@@ -398,7 +394,7 @@ module _ (g : Lending) (b : Begins g) (inside : all_inside (extent_of g.model g.
             (sym (clean_is ∙ ap (settled H.t.bytes H.t.after s.storage) u) ∙ q)))
 
     -- a chain that breaks behind the read ends by a program check
-    breaks : (t : State) (l : Location) → resolve w.lent t.last t.at ≡ Broken l → clean t ≡ ends (checked_at l t.drive t.storage)
+    breaks : (t : State) (l : Location) → resolve w.lent t.last t.at ≡ Err l → clean t ≡ ends (checked_at l t.drive t.storage)
     unfolding step Step.carry plan Step.dispatch program_check
     breaks t l e = rw e
 
@@ -421,7 +417,7 @@ module _ (g : Lending) (b : Begins g) (inside : all_inside (extent_of g.model g.
         rest_is : run clean limit_of n (behind ps z c left over u) ≡ ended e
         rest_is = rw (← parts.1) at rest
 
-        module _ (to : ℕ) (d : Ccw) (v : resolve w.lent z (next z) ≡ Got (Chain to) d) where
+        module _ (to : ℕ) (d : Ccw) (v : resolve w.lent z (next z) ≡ Ok (Chain to, d)) where
           abbrev here : State
           here = behind ps z c left over u
 
@@ -460,10 +456,10 @@ module _ (g : Lending) (b : Begins g) (inside : all_inside (extent_of g.model g.
                   (stray this k x is)
                   (λ bad. unchecked here (Chain to) (after ps z c left over u parts.0 to d v) here.storage (checked_there ps z c left over u parts.0 to d v x is this k bad) n e rest_is good)
 
-        next_by : (k : Fetched) → resolve w.lent z (next z) ≡ k → FetchedIn k → Goes t e
-        next_by (Got (Chain to) d) v i = rw (← parts.1) (by_count to d v (count_for d.command) refl (counted d.command))
-        next_by (Got (Restart to) d) v i = absurd i
-        next_by (Broken l) v i = unchecked (behind ps z c left over u) l H.t.after (store ps H.t.bytes s.storage) (breaks (behind ps z c left over u) l v) n e rest_is good
+        next_by : (k : Result (Location × Ccw) Location) → resolve w.lent z (next z) ≡ k → FetchedIn k → Goes t e
+        next_by (Ok (Chain to, d)) v i = rw (← parts.1) (by_count to d v (count_for d.command) refl (counted d.command))
+        next_by (Ok (Restart to, d)) v i = absurd i
+        next_by (Err l) v i = unchecked (behind ps z c left over u) l H.t.after (store ps H.t.bytes s.storage) (breaks (behind ps z c left over u) l v) n e rest_is good
 
       goes_hit : Goes t e
       unfolding settled program_check
@@ -477,11 +473,11 @@ module _ (g : Lending) (b : Begins g) (inside : all_inside (extent_of g.model g.
               sym (clean_is ∙ ap (settled H.t.bytes H.t.after s.storage) u) ∙ q in
               let x : ◌≡◌ {A = ℕ} 0 1 = cc in absurd (omega arith)
 
-  pub closes : (h : Named) (s : State) (e : End) → Fine s → flag fs w s ≡ some h → clean s ≡ ends e → Good e
+  pub closes : (h : Named) (s : State) (e : End) → Fine s → flag fs w s ≡ Some h → clean s ≡ ends e → Good e
       → Closed faulty limit_of (restarted_run fs w) (recover_cut given) final recovered restart_limit 260 (SeeksInside (extent_of g.model g.extent)) h s e
   closes h s e fine f q good = closes_hit s fine h (hit g b inside s h f) e q good
 
-  pub goes_on : (h : Named) (s t : State) (n : ℕ) (e : End) → Fine s → flag fs w s ≡ some h → clean s ≡ goes t → run clean limit_of n t ≡ ended e → Good e
+  pub goes_on : (h : Named) (s t : State) (n : ℕ) (e : End) → Fine s → flag fs w s ≡ Some h → clean s ≡ goes t → run clean limit_of n t ≡ ended e → Good e
       → GoesOn faulty limit_of (restarted_run fs w) (recover_cut given) final recovered restart_limit 260 (SeeksInside (extent_of g.model g.extent))
       clean (flag fs w) (takes_faulted g) (ends_by_step w) at_count h s t e (ends_by_step w t)
   goes_on h s t n e fine f q rest good = goes_hit s fine h (hit g b inside s h f) t q n e rest good

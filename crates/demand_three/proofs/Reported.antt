@@ -1,10 +1,10 @@
 -- The report of every cut of a reading that begins is well formed: `report_well_formed`. A cut's pattern is that of a fault of the list, so it has three
 -- bytes; its mask is the one before the read, which every command keeps legal.
+use Rattle.std.specs.Prelude.{Option, Some, None}
 use Prim.Native.Nat.{ℕ}
 use native.Mathlib.Omega.{arith}
 use mathlib.Core.Path.{◌≡◌, refl, ◌∙◌}
 use mathlib.Core.Bool.{true}
-use mathlib.Core.Option.{Option, none, some}
 use mathlib.Core.List.{List, [], ◌∷◌, ◌++◌}
 use lib.ListN.{length}
 use Rattle.base.specs.Choice.{pick, opt}
@@ -20,8 +20,6 @@ use Rattle.channel.specs.declared.Csw.{Csw}
 use Rattle.channel.specs.declared.Location.{Location}
 use Rattle.channel.specs.Ccw.{address_of}
 use Rattle.channel.specs.Csw.{csw_bytes}
-use Rattle.drive.specs.declared.FileMask.{FileMask}
-use Rattle.drive.specs.declared.FileMask.TheVariants.{Unset, Set}
 use Rattle.drive.specs.Drive.{initial, address_bytes}
 use Rattle.drive.specs.Step.{State, End, Cut, cut_sense, settable, Setting, step}
 use Rattle.drive.specs.Run.{Limit, limit_of, start, tic_first, run_from}
@@ -38,14 +36,14 @@ module _ (a0 a1 a2 a3 a4 a5 a6 a7 a8 a9 a10 a11 a12 a13 a14 a15 a16 a17 a18 a19 
   abbrev csw : List ℕ
   csw = 0 ∷ c0 ∷ c1 ∷ c2 ∷ c3 ∷ c4 ∷ c5 ∷ c6 ∷ []
 
-  abbrev report : FileMask → Report
-  report m = record { sense = senses; csw = csw_from csw; first = be16_at (f0 ∷ f1 ∷ []) 0; mask = m; seek = none; tries = 0 }
+  abbrev report : Option ℕ → Report
+  report m = record { sense = senses; csw = csw_from csw; first = be16_at (f0 ∷ f1 ∷ []) 0; mask = m; seek = None; tries = 0 }
 
-  unmasked : report_from (tagged 0x10 senses ++ tagged 0x11 csw ++ tagged 0x12 (f0 ∷ f1 ∷ []) ++ []) ≡ some (report Unset)
+  unmasked : report_from (tagged 0x10 senses ++ tagged 0x11 csw ++ tagged 0x12 (f0 ∷ f1 ∷ []) ++ []) ≡ Some (report None)
   unfolding report_from from_fields with_mask with_seek with_tries is_field tagged two part pick opt Fields.begins Fields.front Fields.after_front Fields.fields_up_to Fields.fields_at
   unmasked = refl
 
-  masked : (m : ℕ) → settable m ≡ true → report_from (tagged 0x10 senses ++ tagged 0x11 csw ++ tagged 0x12 (f0 ∷ f1 ∷ []) ++ tagged 0x13 (m ∷ [])) ≡ some (report (Set m))
+  masked : (m : ℕ) → settable m ≡ true → report_from (tagged 0x10 senses ++ tagged 0x11 csw ++ tagged 0x12 (f0 ∷ f1 ∷ []) ++ tagged 0x13 (m ∷ [])) ≡ Some (report (Some m))
   unfolding report_from from_fields with_mask with_seek with_tries is_field tagged two part pick opt Fields.begins Fields.front Fields.after_front Fields.fields_up_to Fields.fields_at
   masked m e = rw e
 
@@ -56,19 +54,19 @@ unfolding csw_from csw_bytes two three
 csw_back w = λ i. record { address = three_back w.address i; unit = w.unit; channel = w.channel; count = two_back w.count i }
 
 -- the report with what is read back
-read_back : (sense : List ℕ) (w : Csw) (n : ℕ) (m : FileMask)
-    → ◌≡◌ {A = Option Report} (some (record { sense = sense; csw = csw_from (csw_bytes w); first = be16_at (two n) 0; mask = m; seek = none; tries = 0 }))
-    (some (record { sense = sense; csw = w; first = n; mask = m; seek = none; tries = 0 }))
+read_back : (sense : List ℕ) (w : Csw) (n : ℕ) (m : Option ℕ)
+    → ◌≡◌ {A = Option Report} (Some (record { sense = sense; csw = csw_from (csw_bytes w); first = be16_at (two n) 0; mask = m; seek = None; tries = 0 }))
+    (Some (record { sense = sense; csw = w; first = n; mask = m; seek = None; tries = 0 }))
 unfolding two
-read_back sense w n m = λ i. some (record { sense = sense; csw = csw_back w i; first = two_back n i; mask = m; seek = none; tries = 0 })
+read_back sense w n m = λ i. Some (record { sense = sense; csw = csw_back w i; first = two_back n i; mask = m; seek = None; tries = 0 })
 
 module _ (k : Cut) (x y z : ℕ) (e : k.pattern ≡ x ∷ y ∷ z ∷ []) where
-  by_mask : (m : FileMask) → ((b : ℕ) → m ≡ Set b → settable b ≡ true)
+  by_mask : (m : Option ℕ) → ((b : ℕ) → m ≡ Some b → settable b ≡ true)
       → report_from (tagged 0x10 (cut_sense k) ++ tagged 0x11 (csw_bytes k.csw) ++ tagged 0x12 (two (address_of k.first)) ++ mask_field m)
-      ≡ some (record { sense = cut_sense k; csw = k.csw; first = address_of k.first; mask = m; seek = none; tries = 0 })
+      ≡ Some (record { sense = cut_sense k; csw = k.csw; first = address_of k.first; mask = m; seek = None; tries = 0 })
   unfolding cut_sense address_bytes csw_bytes mask_field two three
-  by_mask Unset h = rw e (unmasked _ _ _ _ _ _ _ _ _ _ _ _ _ _ _ _ _ _ _ _ _ _ _ _ _ _ _ _ _ _ _ _ _ ∙ read_back _ k.csw (address_of k.first) Unset)
-  by_mask (Set m) h = rw e (masked _ _ _ _ _ _ _ _ _ _ _ _ _ _ _ _ _ _ _ _ _ _ _ _ _ _ _ _ _ _ _ _ _ m (h m refl) ∙ read_back _ k.csw (address_of k.first) (Set m))
+  by_mask None h = rw e (unmasked _ _ _ _ _ _ _ _ _ _ _ _ _ _ _ _ _ _ _ _ _ _ _ _ _ _ _ _ _ _ _ _ _ ∙ read_back _ k.csw (address_of k.first) None)
+  by_mask (Some m) h = rw e (masked _ _ _ _ _ _ _ _ _ _ _ _ _ _ _ _ _ _ _ _ _ _ _ _ _ _ _ _ _ _ _ _ _ m (h m refl) ∙ read_back _ k.csw (address_of k.first) (Some m))
 
 three_bytes : (p : List ℕ) → length p ≡ 3 → (x : ℕ) × (y : ℕ) × (z : ℕ) × (p ≡ x ∷ y ∷ z ∷ [])
 three_bytes [] h = absurd (omega arith)
@@ -78,7 +76,7 @@ three_bytes (x ∷ y ∷ z ∷ []) h = (x, y, z, refl)
 three_bytes (x ∷ y ∷ z ∷ u ∷ p) h = absurd (omega arith)
 
 -- by the length of the pattern and the mask
-well_formed : (k : Cut) → length k.pattern ≡ 3 → ((b : ℕ) → k.mask ≡ Set b → settable b ≡ true) → report_from (report_bytes k) ≡ some (report_of k)
+well_formed : (k : Cut) → length k.pattern ≡ 3 → ((b : ℕ) → k.mask ≡ Some b → settable b ≡ true) → report_from (report_bytes k) ≡ Some (report_of k)
 unfolding report_bytes report_of
 well_formed k h g = let p = three_bytes k.pattern h in by_mask k p.0 p.1 p.2 p.3 k.mask g
 

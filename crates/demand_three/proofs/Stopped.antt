@@ -1,11 +1,11 @@
 -- What can stop a reading: `stopped_by_two_or_nine`. The sense of a cut comes to action 5 and has format 53, so recovery answers question 9, action 2, or a
 -- recovery, whatever the cut was.
+use Rattle.std.specs.Prelude.{Option, Result, Ok, Err}
 use Prim.Native.Nat.{ℕ}
 use native.Mathlib.Omega.{arith}
 use mathlib.Core.Path.{◌≡◌, refl}
 use mathlib.Core.Logic.{inl, inr}
 use mathlib.Core.Bool.{Bool, true, false}
-use mathlib.Core.Option.{Option}
 use mathlib.Core.List.{List}
 use lib.ListN.{get_or}
 use Rattle.base.proofs.Choice.{both, both_if, either}
@@ -16,8 +16,6 @@ use Rattle.channel.specs.declared.Ccw.{Ccw}
 use Rattle.channel.specs.declared.Csw.{Csw}
 use Rattle.channel.specs.declared.Location.{Location}
 use Rattle.channel.specs.declared.Location.TheVariants.{Chain, Restart}
-use Rattle.channel.specs.declared.Fetched.{Fetched}
-use Rattle.channel.specs.declared.Fetched.TheVariants.{Got, Broken}
 use Rattle.channel.specs.Walk.{Walk, walked, checked}
 use Rattle.drive.specs.Step.{Cut}
 use Rattle.recovery.specs.Table.{rows}
@@ -42,11 +40,11 @@ module _ (g : Given) (r : Report) (st : List ℕ) where
   unfolding search_restart
   search_answers ps to c = both FiveAnswer _ restarts two
 
-  next_answers : (ps : List (Option ℕ)) (f : Fetched) → FiveAnswer (on_next f (Recovery.refused Agreement) (search_restart g r st ps))
+  next_answers : (ps : List (Option ℕ)) (f : Result (Location × Ccw) Location) → FiveAnswer (on_next f (Recovery.refused Agreement) (search_restart g r st ps))
   unfolding on_next
-  next_answers ps (Broken l) = nine
-  next_answers ps (Got (Restart a) c) = nine
-  next_answers ps (Got (Chain a) c) = search_answers ps a c
+  next_answers ps (Err l) = nine
+  next_answers ps (Ok (Restart a, c)) = nine
+  next_answers ps (Ok (Chain a, c)) = search_answers ps a c
 
   after_answers : (ps : List (Option ℕ)) (l : Location) (c : Ccw) (wrong : Bool) → FiveAnswer (after_walk g r st ps l c wrong)
   unfolding after_walk

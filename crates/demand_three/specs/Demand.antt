@@ -9,8 +9,7 @@
 --                 command limit and not by a program check"
 --   end_of         what the faultless run ends with, or the same at the restart's 92
 --   LikeFaultless the conclusion
-use Rattle.std.specs.Prelude.{ℕ, ◌≡◌, Bool, true, false, ◌&&◌, List, [], ◌∷◌, map, length, take}
-use Rattle.std.proofs.Math.Option.{some}
+use Rattle.std.specs.Prelude.{ℕ, ◌≡◌, Bool, true, false, ◌&&◌, List, [], ◌∷◌, map, length, take, Some, Result, Ok, Err}
 use Rattle.base.specs.Choice.{pick, opt}
 use Rattle.questions.specs.Areas.{run_areas}
 use Rattle.address.specs.declared.Address.{Address}
@@ -25,8 +24,6 @@ use Rattle.faults.specs.Faults.{Fault, faults_at, sound_faults}
 use Rattle.abstract_machine.specs.Machine.{ended, notes, Along, ends_behind}
 use Rattle.abstract_machine.specs.Reading.{ends}
 use Rattle.channel.specs.declared.Location.TheVariants.{Chain, Restart}
-use Rattle.channel.specs.declared.Fetched.{Fetched}
-use Rattle.channel.specs.declared.Fetched.TheVariants.{Got, Broken}
 use Rattle.channel.specs.Ccw.{resolve}
 use Rattle.channel.specs.Csw.{csw_at, program_check_status}
 use Rattle.drive.specs.Drive.{Drive, address_bytes}
@@ -36,6 +33,8 @@ use Rattle.restart.specs.Restart.{ccw_bytes, count_place, is_multitrack_data}
 use Rattle.recovery.specs.Table.{rows}
 use Rattle.recovery.specs.Recovery.{fetch_mode}
 use Rattle.demand_three.specs.WholeReading.{Entry, Restarted, final, whole_reading}
+use Rattle.channel.specs.declared.Location.{Location}
+use Rattle.channel.specs.declared.Ccw.{Ccw}
 
 -- the lent areas, and what the fault list says
 pub record Lending : Type 0 where
@@ -62,7 +61,7 @@ setting_of g = record {
 pub record Begins (g : Lending) : Type 0 where
   pub areas : run_areas (length g.chain) (length g.arguments) (length g.storage) (length g.image) (length g.fault_list) g.limit ≡ true
   pub image : well_formed (last_of g.model) g.image ≡ true
-  pub listed : faults_at g.fault_list 0 ≡ some g.faults
+  pub listed : faults_at g.fault_list 0 ≡ Some g.faults
   pub faults : sound_faults (pack_of g.image) g.faults ≡ true
   pub extent : (length g.extent ≡ 8) × (sound_extent (extent_of g.model g.extent) ≡ true)
 
@@ -96,9 +95,9 @@ is_failed (fails k) = true
 
 -- "an 86 or 8E that ends with End of Cylinder, File Protected, or a step to a track that isn't in the image". Right behind a read the drive's own
 -- track is in the image, so that it is a step that fails.
-unfoldable pub step_fails : Setting → Drive → Fetched → Bool
-step_fails w d (Broken l) = false
-step_fails w d (Got l c) = is_multitrack_data c.command && is_failed (take_from w.pack true d)
+unfoldable pub step_fails : Setting → Drive → Result (Location × Ccw) Location → Bool
+step_fails w d (Err l) = false
+step_fails w d (Ok (l, c)) = is_multitrack_data c.command && is_failed (take_from w.pack true d)
 
 -- whether the command that comes next is such a one
 unfoldable pub ends_by_step : Setting → State → Bool

@@ -4,12 +4,11 @@
 --   StepCheck     the unit checks by which a step fails
 --   LastStep      the uncut run's last command is such a one, behind a faulted read
 --   SameButFor    the two ends are the same but for address and count left, and these too unless the last command is such a one
-use Rattle.std.specs.Prelude.{ℕ, ◌≡◌, true, ◌⊎◌, []}
+use Rattle.std.specs.Prelude.{ℕ, ◌≡◌, true, ◌⊎◌, [], Ok}
 use Rattle.abstract_machine.specs.Machine.{goes, ends}
 use Rattle.channel.specs.declared.Ccw.{Ccw}
 use Rattle.channel.specs.declared.Location.{Location}
 use Rattle.channel.specs.declared.Location.TheVariants.{Restart}
-use Rattle.channel.specs.declared.Fetched.TheVariants.{Got}
 use Rattle.channel.specs.Ccw.{resolve}
 use Rattle.channel.specs.Csw.{csw_at}
 use Rattle.drive.specs.Step.{State, End, Check, not_found, end_of_cylinder, protected_step, check_sense, step}
@@ -31,7 +30,7 @@ pub record LastStep (g : Lending) (e : End) : Type 0 where
   pub check : Check
   pub faulted : takes_faulted g before ≡ true
   pub goes_on : step [] (setting_of g) before ≡ goes last
-  pub comes : resolve (setting_of g).lent last.last last.at ≡ Got place ccw
+  pub comes : resolve (setting_of g).lent last.last last.at ≡ Ok (place, ccw)
   pub code : is_multitrack_data ccw.command ≡ true
   pub ends_it : step [] (setting_of g) last ≡ ends e
   pub by_step : StepCheck check

@@ -1,6 +1,5 @@
 -- A whole reading: run, recover, run on (document 01, "Bounds of the work").
-use Rattle.std.specs.Prelude.{ℕ, List, []}
-use Rattle.std.proofs.Math.Option.{none}
+use Rattle.std.specs.Prelude.{ℕ, List, [], None}
 use Rattle.questions.specs.declared.Question.{Question}
 use Rattle.questions.specs.Areas.{restart_limit}
 use Rattle.address.specs.declared.Address.{Address}
@@ -42,7 +41,7 @@ pub data Stopped : Type 0 where
 
 -- The report of a cut: sense, CSW, the address of the read's first CCW, and the mask where one is set.
 unfoldable pub report_of : Cut → Report
-report_of k = record { sense = cut_sense k; csw = k.csw; first = address_of k.first; mask = k.mask; seek = none; tries = 0 }
+report_of k = record { sense = cut_sense k; csw = k.csw; first = address_of k.first; mask = k.mask; seek = None; tries = 0 }
 
 -- what is noted of a recovery: its action, and the record whose data area cut the run
 unfoldable pub entry_of : Kind → Cut → Entry

@@ -8,17 +8,15 @@
 --   model_eleven        the worked example on model 11
 --   Instance            the reading meets the conditions of demand 3, and does so
 --   NoImageOfModelOne   on model 1 an image is refused
-use Rattle.std.specs.Prelude.{ℕ, ◌≡◌, List, [], ◌∷◌, ◌++◌, map, length, replicate}
+use Rattle.std.specs.Prelude.{ℕ, ◌≡◌, List, [], ◌∷◌, ◌++◌, map, length, replicate, None, Err}
 use Rattle.base.specs.Bytes.{two}
 use Rattle.questions.specs.declared.Question.TheVariants as Question
-use Rattle.questions.specs.declared.Checked.TheVariants.{Refused}
 use Rattle.address.specs.declared.Address.{Address}
 use Rattle.address.specs.declared.Model.{Model}
 use Rattle.address.specs.declared.Model.TheVariants.{One, Eleven}
 use Rattle.address.specs.Model.{last_of}
 use Rattle.image.specs.Image.{image_answer}
 use Rattle.faults.specs.Faults.{Fault}
-use Rattle.drive.specs.declared.FileMask.TheVariants.{Unset}
 use Rattle.drive.specs.Drive.{address_bytes}
 use Rattle.channel.specs.declared.Csw.{Csw}
 use Rattle.drive.specs.Step.{End, no_sense, not_found, check_sense}
@@ -101,7 +99,7 @@ second_fault cylinder head r = record { at = track cylinder head; r = r; displac
 
 -- an end with both records in storage
 unfoldable pub end_with : Csw → List ℕ → End
-end_with w sense = record { csw = w; sense = sense; mask = Unset; storage = first_body ++ second_body ++ replicate 4088 0 }
+end_with w sense = record { csw = w; sense = sense; mask = None; storage = first_body ++ second_body ++ replicate 4088 0 }
 
 -- the CSW at the end of the last read
 unfoldable pub last_read : Csw
@@ -183,4 +181,4 @@ pub record Instance (x : Example) : Type 0 where
 
 -- On model 1 its image is refused, by question 2.
 abbrev pub NoImageOfModelOne : Example → Type 0
-NoImageOfModelOne x = image_answer One x.lent.image ≡ Refused Question.Image
+NoImageOfModelOne x = image_answer One x.lent.image ≡ Err Question.Image

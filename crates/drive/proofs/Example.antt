@@ -1,4 +1,5 @@
 -- Document 01's worked example, by computation: the chain is cut at its first 06, and the faultless run ends with 0C 00 0000.
+use Rattle.std.specs.Prelude.{None}
 use Prim.Native.Nat.{ℕ}
 use mathlib.Core.Path.{◌≡◌, refl}
 use mathlib.Core.Bool.{false}
@@ -18,7 +19,6 @@ use Rattle.channel.specs.Csw.{csw_at}
 use Rattle.channel.specs.Ccw as Ccw
 use Rattle.channel.specs.Store.{put, store}
 use Rattle.channel.specs.Walk as Walk
-use Rattle.drive.specs.declared.FileMask.TheVariants.{Unset}
 use Rattle.drive.specs.Drive as Drive
 use Rattle.drive.specs.Command as Command
 use Rattle.drive.specs.Step as Step
@@ -59,7 +59,7 @@ cut_at_the_first_read : Run.run_from (fault ∷ []) setting 4096 (Chain 0) (repl
       pattern = 0 ∷ 1 ∷ 0 ∷ [];
       over = false;
       first = Chain 24;
-      mask = Unset;
+      mask = None;
       csw = record { address = 0x20; unit = 0x0e; channel = 0; count = 0 };
       storage = 0xc1 ∷ 0xc2 ∷ 0xc2 ∷ 0xc4 ∷ replicate 12 0;
     })
@@ -70,7 +70,7 @@ faultless_end : Run.run_from [] setting 4096 (Chain 0) (replicate 16 0)
     ≡ ended (record {
       csw = record { address = 0x28; unit = 0x0c; channel = 0; count = 0 };
       sense = replicate 24 0;
-      mask = Unset;
+      mask = None;
       storage = 0xc1 ∷ 0xc2 ∷ 0xc3 ∷ 0xc4 ∷ 0xd1 ∷ 0xd2 ∷ 0xd3 ∷ 0xd4 ∷ replicate 8 0;
     })
 unfolding chain arguments record_of pack setting pick opt part two bit_on same on_pack track_in naming run put store Ccw.ccw_at Ccw.chains_data Ccw.chains_command Ccw.suppresses Ccw.skips Ccw.is_tic Ccw.formed Ccw.address_of Ccw.next Ccw.fetch_in Ccw.fetch Ccw.target Ccw.landed Ccw.follow Ccw.resolve Ccw.arguments_at Ccw.arguments_base Ccw.argument_inside Ccw.argument Ccw.storage_inside Walk.behind_place Walk.place_under Walk.readable Walk.chained Walk.walk Walk.incorrect_length Drive.initial Drive.at_index Drive.moved_past Drive.turn Drive.passes_index Drive.past_zero Drive.taken Drive.address_bytes Drive.identifier Drive.count_area Drive.same_bytes Command.codes Command.look_up Command.command_of csw_at Step.no_sense Step.onward Step.done Step.counted Step.plan_seek Step.protects Step.sought Step.passes_now Step.examine Step.plan_search Step.plan_transfer Step.included Step.bytes_of Step.area_of Step.plan_record Step.plan_place Step.plan_read Step.sound Step.perform Step.execute Step.dispatch Step.plan Step.length_status Step.settled Step.by_fault Step.transferred Step.carry Step.step Run.start Run.tic_first Run.run_from

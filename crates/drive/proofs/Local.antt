@@ -5,6 +5,7 @@
 --   step_local          so is what the command comes to
 --   run_local           so is the whole run
 --   run_joins           a run whose first command comes to the same as one in the chain goes on like that one
+use Rattle.std.specs.Prelude.{Result, Ok, Err}
 use Prim.Native.Nat.{ℕ, zero, suc}
 use mathlib.Core.Path.{◌≡◌, refl, sym, ◌∙◌}
 use mathlib.Core.List.{List}
@@ -15,8 +16,6 @@ use Rattle.abstract_machine.specs.Machine.{goes, ends, cuts, run}
 use Rattle.abstract_machine.proofs.Run.{run_goes, run_ends, run_cuts}
 use Rattle.channel.specs.declared.Ccw.{Ccw}
 use Rattle.channel.specs.declared.Location.{Location}
-use Rattle.channel.specs.declared.Fetched.{Fetched}
-use Rattle.channel.specs.declared.Fetched.TheVariants.{Got, Broken}
 use Rattle.channel.specs.Ccw.{Lent}
 use Rattle.channel.proofs.InChain.{InChain, FetchedIn, resolve_in, with_restart, resolve_local, walk_local, argument_local, argument_inside_local}
 use Rattle.drive.specs.declared.Read.{Read}
@@ -80,10 +79,10 @@ module _ (w : Setting) (program arguments : List ℕ) where
     unfolding Step.execute
     execute_local = rw (sound_local l (length st) c (command_of c.command) h) (choose _ (perform_local (command_of c.command)) refl)
 
-  dispatch_local : (d : Drive) (st : List ℕ) (g : Fetched) → FetchedIn g → Step.dispatch (with_program w program arguments) d st g ≡ Step.dispatch w d st g
+  dispatch_local : (d : Drive) (st : List ℕ) (g : Result (Location × Ccw) Location) → FetchedIn g → Step.dispatch (with_program w program arguments) d st g ≡ Step.dispatch w d st g
   unfolding Step.dispatch
-  dispatch_local d st (Broken l) h = refl
-  dispatch_local d st (Got l c) h = execute_local l c d st h
+  dispatch_local d st (Err l) h = refl
+  dispatch_local d st (Ok (l, c)) h = execute_local l c d st h
 
   pub plan_local : (s : State) → InChain s.at → Step.plan (with_program w program arguments) s ≡ Step.plan w s
   unfolding Step.plan

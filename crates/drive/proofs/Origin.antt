@@ -16,10 +16,10 @@
 --   step_stays          a command in the chain goes on in the chain
 --   step_legal          a command keeps a legal mask legal
 --   step_cuts           a cut is such a cut
+use Rattle.std.specs.Prelude.{Option, Some, None, Result, Ok, Err}
 use Prim.Native.Nat.{ℕ, ◌+◌, ◌≤◌, ◌<◌}
 use mathlib.Core.Path.{◌≡◌, refl, ap}
 use mathlib.Core.Bool.{Bool, true, false, not}
-use mathlib.Core.Option.{Option, none, some}
 use mathlib.Core.List.{List}
 use lib.Dec.{eqb}
 use lib.ListN.{length, get_or, length-append}
@@ -33,8 +33,6 @@ use Rattle.faults.specs.Faults.{Fault, naming}
 use Rattle.abstract_machine.specs.Machine.{goes, ends, cuts}
 use Rattle.channel.specs.declared.Ccw.{Ccw}
 use Rattle.channel.specs.declared.Location.{Location}
-use Rattle.channel.specs.declared.Fetched.{Fetched}
-use Rattle.channel.specs.declared.Fetched.TheVariants.{Got, Broken}
 use Rattle.channel.specs.Ccw.{is_tic, next, fetch, resolve}
 use Rattle.channel.specs.Walk.{Walk, walked, checked, walk, readable}
 use Rattle.channel.proofs.InChain.{InChain, WalkIn, next_in, resolve_in, walk_in}
@@ -42,8 +40,6 @@ use Rattle.channel.proofs.Walks.{Short, walk_places, resolve_got}
 use Rattle.drive.specs.declared.Read.{Read}
 use Rattle.drive.specs.declared.Command.{Command}
 use Rattle.drive.specs.declared.Command.TheVariants.{NoOperation, Seek, SetMask, SetSector, SearchId, ReadHome, ReadRecord, SearchIdMultitrack, ReadMultitrack, Unlisted}
-use Rattle.drive.specs.declared.FileMask.{FileMask}
-use Rattle.drive.specs.declared.FileMask.TheVariants.{Unset, Set}
 use Rattle.drive.specs.Drive.{Drive, at_index, moved_past, taken, address_bytes, identifier, count_area, no_record}
 use Rattle.drive.specs.Command.{command_of}
 use Rattle.drive.specs.Step as Step
@@ -77,11 +73,11 @@ bytes_of_body k x h = omega (arith, length-bytes_of k x, ap (λ b. length (Step.
 -- ---- what a plan is made of
 
 -- a mask that a set mask command may set
-abbrev pub legal : FileMask → Type 0
-legal Unset = Unit {0}
-legal (Set m) = Step.settable m ≡ true
+abbrev pub legal : Option ℕ → Type 0
+legal None = Unit {0}
+legal (Some m) = Step.settable m ≡ true
 
-pub legal_set : (m : FileMask) → legal m → (b : ℕ) → m ≡ Set b → Step.settable b ≡ true
+pub legal_set : (m : Option ℕ) → legal m → (b : ℕ) → m ≡ Some b → Step.settable b ≡ true
 legal_set m h b e = rw e at h
 
 -- a command that reads records, on one track or over several
@@ -99,7 +95,7 @@ pub record Taken (w : Setting) (s : State) (c : Ccw) (x : Record) (bytes : List 
   pub command_is : Reads (command_of c.command) kind
   pub takes_data : kind.datas ≡ true
   pub mask_same : reached.mask ≡ s.drive.mask
-  pub track_is : track_in w.pack reached.at ≡ some track
+  pub track_is : track_in w.pack reached.at ≡ Some track
   pub place_is : place ≡ taken kind.just reached (length track.records)
   pub below : place < length track.records
   pub record_is : get_or track.records place no_record ≡ x
@@ -112,7 +108,7 @@ pub record Taken (w : Setting) (s : State) (c : Ccw) (x : Record) (bytes : List 
 -- A read: its first CCW, its walk, and the record that it takes if it takes a data area.
 pub record From (w : Setting) (s : State) (t : Transfer) : Type 0 where
   pub ccw : Ccw
-  pub resolved : resolve w.lent s.last s.at ≡ Got t.first ccw
+  pub resolved : resolve w.lent s.last s.at ≡ Ok (t.first, ccw)
   pub sound : readable (length s.storage) ccw ≡ true
   pub mask_is : t.after.mask ≡ s.drive.mask
   pub walk_is : t.walk ≡ walk w.lent (length s.storage) (length t.bytes) t.first ccw ccw.count ccw.address
@@ -139,7 +135,7 @@ area_of_data k y x h = by k.datas refl (eqb (length y.body) 0) refl
         let some_body : length y.body ≡ 0 → ⊥ = eqb-false (length y.body) 0 r in
         (q, omega arith, (cc))
 
-module _ (w : Setting) (s : State) (l : Location) (c : Ccw) (got : resolve w.lent s.last s.at ≡ Got l c) where
+module _ (w : Setting) (s : State) (l : Location) (c : Ccw) (got : resolve w.lent s.last s.at ≡ Ok (l, c)) where
   abbrev d : Drive
   d = s.drive
 
@@ -213,7 +209,7 @@ module _ (w : Setting) (s : State) (l : Location) (c : Ccw) (got : resolve w.len
     home_from = either P _ (no Step.not_found) (λ t. transfer_from _ nothing _ refl (λ x e. let z : ◌≡◌ {A = ℕ} 0 1 = cc in absurd (omega arith)))
 
     module _ (k : Read) (k_is : Reads (command_of c.command) k) (d' : Drive) (same : d'.mask ≡ d.mask)
-        (t : Track) (t_is : track_in w.pack d'.at ≡ some t) where
+        (t : Track) (t_is : track_in w.pack d'.at ≡ Some t) where
       -- the record at the place that a read takes
       taken_from : (place : ℕ) → place ≡ taken k.just d' (length t.records) → place < length t.records
           → (x : Record) → Step.area_of k (get_or t.records place no_record) ≡ data_of x
@@ -261,10 +257,10 @@ module _ (w : Setting) (s : State) (l : Location) (c : Ccw) (got : resolve w.len
   perform_from SearchIdMultitrack e r = counted_from 5 _ (multitrack_from _ (search_masked w.pack d) (λ x m. search_from x m _))
   perform_from (ReadMultitrack k) e r = multitrack_from _ (take_masked w.pack k.just d) (λ x m. read_from r k (rw e multitrack) x m)
 
-dispatch_from : (w : Setting) (s : State) (g : Fetched) → resolve w.lent s.last s.at ≡ g → PlanFrom w s (Step.dispatch w s.drive s.storage g)
+dispatch_from : (w : Setting) (s : State) (g : Result (Location × Ccw) Location) → resolve w.lent s.last s.at ≡ g → PlanFrom w s (Step.dispatch w s.drive s.storage g)
 unfolding Step.dispatch Step.execute Step.program_check
-dispatch_from w s (Broken l) e = answer_from ends_from
-dispatch_from w s (Got l c) e = both_if (PlanFrom w s) _ (λ r. perform_from w s l c e _ refl r) (λ r. answer_from ends_from)
+dispatch_from w s (Err l) e = answer_from ends_from
+dispatch_from w s (Ok (l, c)) e = both_if (PlanFrom w s) _ (λ r. perform_from w s l c e _ refl r) (λ r. answer_from ends_from)
 
 pub plan_from : (w : Setting) (s : State) → PlanFrom w s (Step.plan w s)
 unfolding Step.plan
@@ -277,7 +273,7 @@ moves_is w s t (answer a) h e = let z : ◌≡◌ {A = ℕ} 0 1 = cc in absurd (
 pub transfer_from_plan : (w : Setting) (s : State) (t : Transfer) → Step.plan w s ≡ moves t → From w s t
 transfer_from_plan w s t e = moves_is w s t _ (plan_from w s) e
 
-pub ccw_fetched : (w : Setting) (s : State) (t : Transfer) (f : From w s t) → (fetch w.lent t.first ≡ some f.ccw) × (is_tic f.ccw ≡ false)
+pub ccw_fetched : (w : Setting) (s : State) (t : Transfer) (f : From w s t) → (fetch w.lent t.first ≡ Some f.ccw) × (is_tic f.ccw ≡ false)
 ccw_fetched w s t f = resolve_got w.lent s.last s.at t.first f.ccw f.resolved
 
 pub first_in : (w : Setting) (s : State) (t : Transfer) → From w s t → InChain s.at → InChain t.first
@@ -294,7 +290,7 @@ places_few w s t f = rw f.walk_is (walk_places w.lent _ _ t.first _ _ _)
 -- A cut in the state s: the fault that names its record, and the mask of s.
 pub record CutFrom (fs : List Fault) (s : State) (k : Cut) : Type 0 where
   pub fault : Fault
-  pub named : naming fs k.at k.r ≡ some fault
+  pub named : naming fs k.at k.r ≡ Some fault
   pub pattern_is : k.pattern ≡ fault.pattern
   pub mask_is : k.mask ≡ s.drive.mask
 
@@ -318,7 +314,7 @@ module _ (fs : List Fault) (w : Setting) (s : State) where
   clean : (t : Transfer) → From w s t → StepFrom fs s (Step.settled t.bytes t.after s.storage t.walk)
   clean t f = uncut_from (settled_from s t.bytes t.after s.storage t.walk (ends_in w s t f) (λ g. rw f.mask_is g))
 
-  faulted_from : (t : Transfer) (x : Record) (f : Fault) → From w s t → naming fs x.at x.r ≡ some f
+  faulted_from : (t : Transfer) (x : Record) (f : Fault) → From w s t → naming fs x.at x.r ≡ Some f
       → (k : Walk) → StepFrom fs s (Step.faulted t.first x f t.bytes t.after s.storage k)
   unfolding Step.faulted Step.program_check
   faulted_from t x f h e (checked ps l) = uncut_from ends_from
@@ -326,8 +322,8 @@ module _ (fs : List Fault) (w : Setting) (s : State) where
 
   by_fault_from : (t : Transfer) (x : Record) (o : Option Fault) → From w s t → naming fs x.at x.r ≡ o → StepFrom fs s (Step.by_fault t x s.storage o)
   unfolding Step.by_fault
-  by_fault_from t x none f e = clean t f
-  by_fault_from t x (some y) f e = faulted_from t x y f e t.walk
+  by_fault_from t x None f e = clean t f
+  by_fault_from t x (Some y) f e = faulted_from t x y f e t.walk
 
   transferred_from : (t : Transfer) (a : DataArea) → From w s t → StepFrom fs s (Step.transferred fs t s.storage a)
   unfolding Step.transferred

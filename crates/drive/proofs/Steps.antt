@@ -8,10 +8,10 @@
 --   step_settled       without faults a read of a data area is settled
 --   step_faulted       a read of a named one is faulted
 --   cut_of              the cut of a faulted read
+use Rattle.std.specs.Prelude.{Option, Some, None}
 use Prim.Native.Nat.{ℕ}
 use mathlib.Core.Path.{◌≡◌, refl}
 use mathlib.Core.Bool.{Bool, true, false}
-use mathlib.Core.Option.{Option, none, some}
 use mathlib.Core.List.{List, []}
 use lib.ListN.{length}
 use native.Mathlib.Omega.{arith}
@@ -28,11 +28,11 @@ use Rattle.drive.specs.Step.{State, Cut, DataArea, nothing, empty, data_of, Tran
 unfoldable pub faulted_in : List Fault → Plan → Bool
 faulted_in fs a = opt (Step.area_in fs a) false (λ x. x.faulted)
 
-pub faulted_in_none : (fs : List Fault) (a : Plan) → Step.area_in fs a ≡ none → faulted_in fs a ≡ false
+pub faulted_in_none : (fs : List Fault) (a : Plan) → Step.area_in fs a ≡ None → faulted_in fs a ≡ false
 unfolding faulted_in opt
 faulted_in_none fs a h = rw h
 
-pub faulted_in_some : (fs : List Fault) (a : Plan) (x : Area) → Step.area_in fs a ≡ some x → faulted_in fs a ≡ x.faulted
+pub faulted_in_some : (fs : List Fault) (a : Plan) (x : Area) → Step.area_in fs a ≡ Some x → faulted_in fs a ≡ x.faulted
 unfolding faulted_in opt
 faulted_in_some fs a x h = rw h
 
@@ -43,7 +43,7 @@ pub record Named (fs : List Fault) (a : Plan) : Type 0 where
   pub fault : Fault
   pub is_moves : a ≡ moves transfer
   pub is_data : transfer.area ≡ data_of taken
-  pub fault_named : naming fs taken.at taken.r ≡ some fault
+  pub fault_named : naming fs taken.at taken.r ≡ Some fault
 
 pub named : (fs : List Fault) (a : Plan) → faulted_in fs a ≡ true → Named fs a
 unfolding faulted_in opt Step.area_in Step.area_taken Step.is_named
@@ -51,8 +51,8 @@ named fs (answer b) h = let z : ◌≡◌ {A = ℕ} 0 1 = cc in absurd (omega ar
 named fs (moves t) h = by t.area refl
   where
     by_name : (x : Record) → t.area ≡ data_of x → (o : Option Fault) → naming fs x.at x.r ≡ o → Named fs (moves t)
-    by_name x q (some f) e = record { transfer = t; taken = x; fault = f; is_moves = refl; is_data = q; fault_named = e }
-    by_name x q none e = let g : false ≡ true = rw (q, e) at h in let z : ◌≡◌ {A = ℕ} 0 1 = cc in absurd (omega arith)
+    by_name x q (Some f) e = record { transfer = t; taken = x; fault = f; is_moves = refl; is_data = q; fault_named = e }
+    by_name x q None e = let g : false ≡ true = rw (q, e) at h in let z : ◌≡◌ {A = ℕ} 0 1 = cc in absurd (omega arith)
 
     by : (k : DataArea) → t.area ≡ k → Named fs (moves t)
     by nothing q = let g : false ≡ true = rw q at h in let z : ◌≡◌ {A = ℕ} 0 1 = cc in absurd (omega arith)
@@ -60,7 +60,7 @@ named fs (moves t) h = by t.area refl
     by (data_of x) q = by_name x q (naming fs x.at x.r) refl
 
 pub named_area : (fs : List Fault) (a : Plan) (n : Named fs a)
-    → Step.area_in fs a ≡ some (record { at = n.taken.at; r = n.taken.r; faulted = true })
+    → Step.area_in fs a ≡ Some (record { at = n.taken.at; r = n.taken.r; faulted = true })
 unfolding Step.area_in Step.area_taken Step.is_named
 named_area fs a n = rw (n.is_moves, n.is_data, n.fault_named)
 
@@ -70,8 +70,8 @@ carry_unnamed fs st (answer b) h = refl
 carry_unnamed fs st (moves t) h = by t.area refl
   where
     by_name : (x : Record) → t.area ≡ data_of x → (o : Option Fault) → naming fs x.at x.r ≡ o → Step.carry fs st (moves t) ≡ Step.carry [] st (moves t)
-    by_name x q (some f) e = let g : true ≡ false = rw (q, e) at h in let z : ◌≡◌ {A = ℕ} 0 1 = cc in absurd (omega arith)
-    by_name x q none e = rw (q, e)
+    by_name x q (Some f) e = let g : true ≡ false = rw (q, e) at h in let z : ◌≡◌ {A = ℕ} 0 1 = cc in absurd (omega arith)
+    by_name x q None e = rw (q, e)
 
     by : (k : DataArea) → t.area ≡ k → Step.carry fs st (moves t) ≡ Step.carry [] st (moves t)
     by nothing q = rw q
@@ -89,7 +89,7 @@ module _ (w : Setting) (s : State) (t : Transfer) (x : Record) (p : Step.plan w 
   unfolding naming Step.step Step.carry Step.transferred Step.by_fault
   step_settled = rw (p, q)
 
-  pub step_faulted : (fs : List Fault) (f : Fault) → naming fs x.at x.r ≡ some f
+  pub step_faulted : (fs : List Fault) (f : Fault) → naming fs x.at x.r ≡ Some f
       → Step.step fs w s ≡ Step.faulted t.first x f t.bytes t.after s.storage t.walk
   unfolding Step.step Step.carry Step.transferred Step.by_fault
   step_faulted fs f e = rw (p, q, e)

@@ -1,4 +1,5 @@
 -- "Only reads write storage.": `only_reads_write`.
+use Rattle.std.specs.Prelude.{Result, Ok, Err}
 use Prim.Native.Nat.{ℕ}
 use native.Mathlib.Omega.{arith}
 use mathlib.Core.Path.{◌≡◌, refl}
@@ -9,8 +10,6 @@ use Rattle.pack.specs.Pack.{Track}
 use Rattle.faults.specs.Faults.{Fault}
 use Rattle.channel.specs.declared.Ccw.{Ccw}
 use Rattle.channel.specs.declared.Location.{Location}
-use Rattle.channel.specs.declared.Fetched.{Fetched}
-use Rattle.channel.specs.declared.Fetched.TheVariants.{Got, Broken}
 use Rattle.channel.specs.Ccw.{resolve, next}
 use Rattle.drive.specs.declared.Command.{Command}
 use Rattle.drive.specs.declared.Command.TheVariants.{NoOperation, Seek, SetMask, SetSector, SearchId, ReadHome, ReadRecord, SearchIdMultitrack, ReadMultitrack, Unlisted}
@@ -66,10 +65,10 @@ module _ (fs : List Fault) (st : List ℕ) where
         counts l c d 5 _ (reached_by Keeps _ (λ k q. refuses l c d k) (λ e q. searches l c e w.pack _))
     performs w (ReadMultitrack k) h = let z : ◌≡◌ {A = ℕ} 0 1 = cc in absurd (omega arith)
 
-  dispatches : (w : Setting) (d : Drive) (f : Fetched) → reads_next f ≡ false → Keeps (Step.dispatch w d st f)
+  dispatches : (w : Setting) (d : Drive) (f : Result (Location × Ccw) Location) → reads_next f ≡ false → Keeps (Step.dispatch w d st f)
   unfolding Step.dispatch Step.execute reads_next
-  dispatches w d (Broken l) h = checks l (record { command = 0; address = 0; flags = 0; count = 0 }) d
-  dispatches w d (Got l c) h = both Keeps _ (performs l c d w (command_of c.command) h) (checks l c d)
+  dispatches w d (Err l) h = checks l (record { command = 0; address = 0; flags = 0; count = 0 }) d
+  dispatches w d (Ok (l, c)) h = both Keeps _ (performs l c d w (command_of c.command) h) (checks l c d)
 
 pub only_reads_write : OnlyReadsWrite
 unfolding Step.step Step.plan

@@ -1,11 +1,9 @@
 -- The drive's state, and where it stands on a track (document 01, "Drive").
-use Rattle.std.specs.Prelude.{ℕ, ◌+◌, ◌-◌, Bool, true, false, ◌&&◌, List, [], ◌∷◌, ◌++◌, eqb, ltb, length}
+use Rattle.std.specs.Prelude.{ℕ, ◌+◌, ◌-◌, Bool, true, false, ◌&&◌, List, [], ◌∷◌, ◌++◌, eqb, ltb, length, Option, None}
 use Rattle.base.specs.Choice.{pick}
 use Rattle.base.specs.Bytes.{two}
 use Rattle.address.specs.declared.Address.{Address}
 use Rattle.pack.specs.Pack.{Record, Track}
-use Rattle.drive.specs.declared.FileMask.{FileMask}
-use Rattle.drive.specs.declared.FileMask.TheVariants.{Unset}
 
 -- A place on a track is a number of records: the record at place 0 is R0.
 pub record Drive : Type 0 where
@@ -17,14 +15,14 @@ pub record Drive : Type 0 where
   -- how often searches passed the index since the last control, read or equal search
   pub passes : ℕ
   -- the file mask, if one was set
-  pub mask : FileMask
+  pub mask : Option ℕ
 
 -- "A run starts at cylinder 0, head 0, at the index, with no mask."
 unfoldable pub initial : Drive
-initial = record { at = record { cylinder = 0; head = 0 }; next = 0; passed = false; passes = 0; mask = Unset }
+initial = record { at = record { cylinder = 0; head = 0 }; next = 0; passed = false; passes = 0; mask = None }
 
 -- "Control commands and 1A put the drive at the index."
-unfoldable pub at_index : Address → FileMask → Drive
+unfoldable pub at_index : Address → Option ℕ → Drive
 at_index a m = record { at = a; next = 0; passed = false; passes = 0; mask = m }
 
 -- behind the count area at a place (`passed`), or behind the whole record

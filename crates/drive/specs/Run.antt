@@ -1,5 +1,5 @@
 -- A run of the trial drive: from the chain's first CCW, or from a restart program's.
-use Rattle.std.specs.Prelude.{ℕ, Bool, false, List}
+use Rattle.std.specs.Prelude.{ℕ, Bool, false, List, Option}
 use Rattle.base.specs.Choice.{pick, opt}
 use Rattle.faults.specs.Faults.{Fault}
 use Rattle.abstract_machine.specs.Machine.{Result, ended, run}
@@ -8,7 +8,6 @@ use Rattle.channel.specs.declared.Csw.{Csw}
 use Rattle.channel.specs.Ccw.{Lent, is_tic, fetch}
 use Rattle.channel.specs.Csw.{csw_at, end_status, program_check_status}
 use Rattle.drive.specs.Drive.{initial}
-use Rattle.drive.specs.declared.FileMask.{FileMask}
 use Rattle.drive.specs.Step.{State, End, Cut, no_sense, Setting, step}
 
 -- "A run starts at cylinder 0, head 0, at the index, with no mask."
@@ -22,7 +21,7 @@ tic_first p l = opt (fetch p l) false is_tic
 -- What "limit" shows: the last CSW, the file mask, storage.
 pub record Limit : Type 0 where
   pub csw : Csw
-  pub mask : FileMask
+  pub mask : Option ℕ
   pub storage : List ℕ
 
 -- "answers 'limit' with its last CSW": that of the last command, behind which the chain went on

@@ -1,8 +1,7 @@
 -- One command of a run (document 01, "Channel" and "Drive"; document 02, "Read on to the next head" and "Head reached, for 10A").
 -- A command is first planned, with no knowledge of the fault list; only a plan that takes a data area asks the list.
 -- So a faultless run is the same definition with an empty list.
-use Rattle.std.specs.Prelude.{ℕ, zero, suc, ◌+◌, ◌-◌, Bool, true, false, ◌&&◌, ◌||◌, not, List, [], ◌∷◌, ◌++◌, eqb, ltb, length, get_or, take, replicate}
-use Rattle.std.proofs.Math.Option.{Option, none, some}
+use Rattle.std.specs.Prelude.{ℕ, zero, suc, ◌+◌, ◌-◌, Bool, true, false, ◌&&◌, ◌||◌, not, List, [], ◌∷◌, ◌++◌, eqb, ltb, length, get_or, take, replicate, Option, Some, None, Result, Ok, Err}
 use Rattle.std.specs.Int.Bits.{bit_xor}
 use Rattle.base.specs.Choice.{pick, opt}
 use Rattle.base.specs.Bytes.{be16_at, two, three}
@@ -14,8 +13,6 @@ use Rattle.faults.specs.Faults.{Fault, naming}
 use Rattle.abstract_machine.specs.Machine.{Stepped, goes, ends, cuts}
 use Rattle.channel.specs.declared.Ccw.{Ccw}
 use Rattle.channel.specs.declared.Location.{Location}
-use Rattle.channel.specs.declared.Fetched.{Fetched}
-use Rattle.channel.specs.declared.Fetched.TheVariants.{Got, Broken}
 use Rattle.channel.specs.declared.Csw.{Csw}
 use Rattle.channel.specs.Ccw.{Lent, chains_data, chains_command, formed, next, resolve, argument_inside, argument}
 use Rattle.channel.specs.Csw.{csw_at, end_status, unit_check, unit_exception, incorrect_length_status, program_check_status}
@@ -25,8 +22,6 @@ use Rattle.drive.specs.Drive.{Drive, at_index, moved_past, turn, passes_index, p
 use Rattle.drive.specs.declared.Read.{Read}
 use Rattle.drive.specs.declared.Command.{Command}
 use Rattle.drive.specs.declared.Command.TheVariants.{NoOperation, Seek, SetMask, SetSector, SearchId, ReadHome, ReadRecord, SearchIdMultitrack, ReadMultitrack, Unlisted}
-use Rattle.drive.specs.declared.FileMask.{FileMask}
-use Rattle.drive.specs.declared.FileMask.TheVariants.{Unset, Set}
 use Rattle.drive.specs.Command.{command_of}
 
 -- ---- what a command comes to
@@ -43,7 +38,7 @@ pub record State : Type 0 where
 pub record End : Type 0 where
   pub csw : Csw
   pub sense : List ℕ
-  pub mask : FileMask
+  pub mask : Option ℕ
   pub storage : List ℕ
 
 -- A cut by a faulted data area: the record, the displacements and the pattern, whether the count ran out first,
@@ -56,7 +51,7 @@ pub record Cut : Type 0 where
   pub pattern : List ℕ
   pub over : Bool
   pub first : Location
-  pub mask : FileMask
+  pub mask : Option ℕ
   pub csw : Csw
   pub storage : List ℕ
 
@@ -126,14 +121,14 @@ pub data Plan : Type 0 where
 -- ---- control commands
 
 -- "Mask bits 3 and 4 other than 00 make a seek file protected."
-unfoldable pub protects : FileMask → Bool
-protects Unset = false
-protects (Set m) = bit_on 3 m || bit_on 4 m
+unfoldable pub protects : Option ℕ → Bool
+protects None = false
+protects (Some m) = bit_on 3 m || bit_on 4 m
 
 -- "a second mask" is rejected: whether one was set since the run began
-unfoldable pub is_set : FileMask → Bool
-is_set Unset = false
-is_set (Set m) = true
+unfoldable pub is_set : Option ℕ → Bool
+is_set None = false
+is_set (Some m) = true
 
 -- "mask bits 2, 5 or 6 on" is rejected
 unfoldable pub settable : ℕ → Bool
@@ -169,7 +164,7 @@ module _ (l : Location) (c : Ccw) (d : Drive) (st : List ℕ) where
 
   -- "a second mask, mask bits 2, 5 or 6 on"
   unfoldable pub plan_mask : ℕ → Plan
-  plan_mask m = pick (not (is_set d.mask) && settable m) (done (next l) (at_index d.at (Set m))) (refuse rejected)
+  plan_mask m = pick (not (is_set d.mask) && settable m) (done (next l) (at_index d.at (Some m))) (refuse rejected)
 
   -- "23 sector (1: 0 to 127, or 255)"
   unfoldable pub plan_sector : ℕ → Plan
@@ -245,9 +240,9 @@ on_reached (reaches d) f g = g d
 on_reached (fails k) f g = f k
 
 -- "mask bits 3 and 4 at 11 make the step File Protected"
-unfoldable pub protects_step : FileMask → Bool
-protects_step Unset = false
-protects_step (Set m) = bit_on 3 m && bit_on 4 m
+unfoldable pub protects_step : Option ℕ → Bool
+protects_step None = false
+protects_step (Some m) = bit_on 3 m && bit_on 4 m
 
 -- "searches begin there with R0, reads after R0, and the count of index passes starts again": at the index of the next head
 unfoldable pub next_head : Drive → Drive
@@ -329,9 +324,9 @@ execute w l c d st =
     pick (sound w.lent l (length st) c (command_of c.command)) (perform w l c d st (command_of c.command)) (answer (program_check l d st))
 
 -- the CCW that comes next, or a program check instead of it
-unfoldable pub dispatch : Setting → Drive → List ℕ → Fetched → Plan
-dispatch w d st (Broken l) = answer (program_check l d st)
-dispatch w d st (Got l c) = execute w l c d st
+unfoldable pub dispatch : Setting → Drive → List ℕ → Result (Location × Ccw) Location → Plan
+dispatch w d st (Err l) = answer (program_check l d st)
+dispatch w d st (Ok (l, c)) = execute w l c d st
 
 -- the plan of the CCW that comes next: at the state's place, or behind a TIC there
 unfoldable pub plan : Setting → State → Plan
@@ -391,8 +386,8 @@ faulted first x f bs d st (walked ps l c left over) =
 
 -- a read that takes the data of the record x, with the fault that names x if there is one
 unfoldable pub by_fault : Transfer → Record → List ℕ → Option Fault → Answer
-by_fault t x st none = settled t.bytes t.after st t.walk
-by_fault t x st (some f) = faulted t.first x f t.bytes t.after st t.walk
+by_fault t x st None = settled t.bytes t.after st t.walk
+by_fault t x st (Some f) = faulted t.first x f t.bytes t.after st t.walk
 
 -- a read by its data area, under a fault list
 unfoldable pub transferred : List Fault → Transfer → List ℕ → DataArea → Answer
@@ -419,18 +414,18 @@ pub record Area : Type 0 where
 
 -- "a record that the list names": whether there is a fault that names it
 unfoldable pub is_named : Option Fault → Bool
-is_named none = false
-is_named (some f) = true
+is_named None = false
+is_named (Some f) = true
 
 -- the data area of a read, if it takes one; one of length 0 is left out, as no fault can name its record
 unfoldable pub area_taken : List Fault → DataArea → Option Area
-area_taken fs nothing = none
-area_taken fs empty = none
-area_taken fs (data_of x) = some (record { at = x.at; r = x.r; faulted = is_named (naming fs x.at x.r) })
+area_taken fs nothing = None
+area_taken fs empty = None
+area_taken fs (data_of x) = Some (record { at = x.at; r = x.r; faulted = is_named (naming fs x.at x.r) })
 
 -- the data area that a plan takes, "even if it stores no byte"
 unfoldable pub area_in : List Fault → Plan → Option Area
-area_in fs (answer a) = none
+area_in fs (answer a) = None
 area_in fs (moves t) = area_taken fs t.area
 
 -- ---- the sense of a cut

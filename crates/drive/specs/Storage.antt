@@ -1,14 +1,14 @@
 -- "Only reads write storage." (document 01, "Bounds of the work")
-use Rattle.std.specs.Prelude.{ℕ, ◌≡◌, Bool, true, false, List}
+use Rattle.std.specs.Prelude.{ℕ, ◌≡◌, Bool, true, false, List, Result, Ok, Err}
 use Rattle.faults.specs.Faults.{Fault}
 use Rattle.abstract_machine.specs.Machine.{goes, ends, cuts}
-use Rattle.channel.specs.declared.Fetched.{Fetched}
-use Rattle.channel.specs.declared.Fetched.TheVariants.{Got, Broken}
 use Rattle.channel.specs.Ccw.{resolve}
 use Rattle.drive.specs.declared.Command.{Command}
 use Rattle.drive.specs.declared.Command.TheVariants.{NoOperation, Seek, SetMask, SetSector, SearchId, ReadHome, ReadRecord, SearchIdMultitrack, ReadMultitrack, Unlisted}
 use Rattle.drive.specs.Command.{command_of}
 use Rattle.drive.specs.Step.{State, Answer, Setting, step}
+use Rattle.channel.specs.declared.Location.{Location}
+use Rattle.channel.specs.declared.Ccw.{Ccw}
 
 -- whether a command is a read: "06 data, 0E key and data, 12 count, 1E count, key and data", "1A home address", and 86, 8E, 92 and 9E
 unfoldable pub is_read : Command → Bool
@@ -24,9 +24,9 @@ is_read SearchIdMultitrack = false
 is_read (ReadMultitrack k) = true
 
 -- whether the CCW that comes next is a read; where none can be fetched, nothing is read
-unfoldable pub reads_next : Fetched → Bool
-reads_next (Broken l) = false
-reads_next (Got l c) = is_read (command_of c.command)
+unfoldable pub reads_next : Result (Location × Ccw) Location → Bool
+reads_next (Err l) = false
+reads_next (Ok (l, c)) = is_read (command_of c.command)
 
 -- storage behind a command, however it came out
 unfoldable pub storage_behind : Answer → List ℕ

@@ -32,74 +32,69 @@ pub enum Command {
     Unlisted,
 }
 
-// The file mask, if one was set.
-#[derive(Clone, Copy)]
-pub enum FileMask {
-    Unset,
-    Set(u8),
-}
-
 // The command of a code.
-pub fn command_of(code: u8) -> Command
-    ensures { result ≡ command_of code }
-{
-    match code {
-        0x03 => Command::NoOperation,
-        0x07 => Command::Seek,
-        0x1f => Command::SetMask,
-        0x23 => Command::SetSector,
-        0x31 => Command::SearchId,
-        0x06 => Command::ReadRecord(Read {
-            just: true,
-            counts: false,
-            keys: false,
-            datas: true,
-        }),
-        0x0e => Command::ReadRecord(Read {
-            just: true,
-            counts: false,
-            keys: true,
-            datas: true,
-        }),
-        0x12 => Command::ReadRecord(Read {
-            just: false,
-            counts: true,
-            keys: false,
-            datas: false,
-        }),
-        0x1e => Command::ReadRecord(Read {
-            just: false,
-            counts: true,
-            keys: true,
-            datas: true,
-        }),
-        0x1a => Command::ReadHome,
-        0xb1 => Command::SearchIdMultitrack,
-        0x86 => Command::ReadMultitrack(Read {
-            just: true,
-            counts: false,
-            keys: false,
-            datas: true,
-        }),
-        0x8e => Command::ReadMultitrack(Read {
-            just: true,
-            counts: false,
-            keys: true,
-            datas: true,
-        }),
-        0x92 => Command::ReadMultitrack(Read {
-            just: false,
-            counts: true,
-            keys: false,
-            datas: false,
-        }),
-        0x9e => Command::ReadMultitrack(Read {
-            just: false,
-            counts: true,
-            keys: true,
-            datas: true,
-        }),
-        _ => Command::Unlisted,
+impl From<u8> for Command {
+    ghost from_gives = { λ code k. k ≡ command_of code };
+
+    fn from(code: u8) -> Command {
+        match code {
+            0x03 => Command::NoOperation,
+            0x07 => Command::Seek,
+            0x1f => Command::SetMask,
+            0x23 => Command::SetSector,
+            0x31 => Command::SearchId,
+            0x06 => Command::ReadRecord(Read {
+                just: true,
+                counts: false,
+                keys: false,
+                datas: true,
+            }),
+            0x0e => Command::ReadRecord(Read {
+                just: true,
+                counts: false,
+                keys: true,
+                datas: true,
+            }),
+            0x12 => Command::ReadRecord(Read {
+                just: false,
+                counts: true,
+                keys: false,
+                datas: false,
+            }),
+            0x1e => Command::ReadRecord(Read {
+                just: false,
+                counts: true,
+                keys: true,
+                datas: true,
+            }),
+            0x1a => Command::ReadHome,
+            0xb1 => Command::SearchIdMultitrack,
+            0x86 => Command::ReadMultitrack(Read {
+                just: true,
+                counts: false,
+                keys: false,
+                datas: true,
+            }),
+            0x8e => Command::ReadMultitrack(Read {
+                just: true,
+                counts: false,
+                keys: true,
+                datas: true,
+            }),
+            0x92 => Command::ReadMultitrack(Read {
+                just: false,
+                counts: true,
+                keys: false,
+                datas: false,
+            }),
+            0x9e => Command::ReadMultitrack(Read {
+                just: false,
+                counts: true,
+                keys: true,
+                datas: true,
+            }),
+            _ => Command::Unlisted,
+        }
     }
 }
 

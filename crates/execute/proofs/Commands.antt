@@ -9,6 +9,7 @@
 --   home-performs .. other-performs    by the command
 --   failed_performs, reached_performs  by where it is done
 --   broken-low .. got                  by the CCW that was fetched
+use Rattle.std.specs.Prelude.{Ok, Err}
 use Prim.Native.Nat.{ℕ}
 use native.Mathlib.Omega.{arith}
 use mathlib.Core.Path.{◌≡◌, refl, ap, sym, subst, ◌∙◌}
@@ -23,7 +24,6 @@ use Rattle.base.proofs.Choice.{pick_true, pick_false}
 use Rattle.pack.specs.Pack.{pack_of}
 use Rattle.channel.specs.declared.Ccw.{Ccw}
 use Rattle.channel.specs.declared.Location.{Location}
-use Rattle.channel.specs.declared.Fetched.TheVariants.{Got, Broken}
 use Rattle.channel.specs.Ccw.{Lent, chains_data}
 use Rattle.channel.specs.Fetch.{Resolves}
 use Rattle.channel.specs.Walk.{readable}
@@ -235,17 +235,17 @@ module _ (chain arguments program restart_arguments : List ℕ) where
   -- ---- by what was fetched
 
   module _ (s : State) where
-    pub broken_low : (l : Location) → Short chain program → Low s.last → Resolves chain program s.last s.at (Broken l) → Low l
+    pub broken_low : (l : Location) → Short chain program → Low s.last → Resolves chain program s.last s.at (Err l) → Low l
     broken_low l h low e =
         subst (Shown Low) (sym (e p refl refl)) (resolve_shown Low p (λ k c f. inside_low chain program h k (fetched_inside p k c f)) s.last s.at low)
 
     module _ (last : ℕ) (image faults st : List ℕ) (r : Answer) where
-      pub broken : (l : Location) → Resolves chain program s.last s.at (Broken l) → Answers (Step.program_check l (drive_of s.drive)) r
+      pub broken : (l : Location) → Resolves chain program s.last s.at (Err l) → Answers (Step.program_check l (drive_of s.drive)) r
           → Steps last chain arguments program restart_arguments image faults s st r st
       unfolding Step.step Step.plan Step.dispatch Step.carry
       broken l e a = λ fs f. ap (λ q. Step.carry fs st (Step.dispatch (setting_with last p image) (drive_of s.drive) st q)) (sym (e p refl refl)) ∙ a st
 
-      pub got : (l : Location) (c : Ccw) (after : List ℕ) → Resolves chain program s.last s.at (Got l c)
+      pub got : (l : Location) (c : Ccw) (after : List ℕ) → Resolves chain program s.last s.at (Ok (l, c))
           → Executes last chain arguments program restart_arguments image faults l c (drive_of s.drive) st r after → Steps last chain arguments program restart_arguments image faults s st r after
       unfolding Step.step Step.plan Step.dispatch
       got l c after e a = λ fs f. ap (λ q. Step.carry fs st (Step.dispatch (setting_with last p image) (drive_of s.drive) st q)) (sym (e p refl refl)) ∙ a fs f

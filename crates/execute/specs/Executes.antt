@@ -1,6 +1,5 @@
 -- One command of a run, as the code does it: what it comes to.
-use Rattle.std.specs.Prelude.{ℕ, ◌≡◌, true, List, length}
-use Rattle.std.proofs.Math.Option.{some}
+use Rattle.std.specs.Prelude.{ℕ, ◌≡◌, true, List, length, Some}
 use Rattle.faults.specs.Faults.{Fault, faults_at}
 use Rattle.channel.specs.declared.Ccw.{Ccw}
 use Rattle.channel.specs.declared.Location.{Location}
@@ -19,7 +18,7 @@ use Rattle.heads.specs.Reached.{reached_of}
 -- One command, from a state and storage, on a pack with this last cylinder: what it comes to, and storage behind it.
 abbrev pub Steps : ℕ → (chain arguments program restart_arguments image faults : List ℕ) → State → List ℕ → Answer → List ℕ → Type 0
 Steps last chain arguments program restart_arguments image faults s st r after =
-    (fs : List Fault) → faults_at faults 0 ≡ some fs
+    (fs : List Fault) → faults_at faults 0 ≡ Some fs
     → Step.step fs (setting_with last (lent_of chain arguments program restart_arguments) image) (state_of s st) ≡ answer_of r after
 
 -- ---- the CCW c at l, once it is fetched
@@ -27,7 +26,7 @@ Steps last chain arguments program restart_arguments image faults s st r after =
 -- what it comes to, on the drive d and with storage st, and storage behind it
 abbrev pub Executes : ℕ → (chain arguments program restart_arguments image faults : List ℕ) → Location → Ccw → Abstract.Drive → List ℕ → Answer → List ℕ → Type 0
 Executes last chain arguments program restart_arguments image faults l c d st r after =
-    (fs : List Fault) → faults_at faults 0 ≡ some fs
+    (fs : List Fault) → faults_at faults 0 ≡ Some fs
     → Step.carry fs st (Step.execute (setting_with last (lent_of chain arguments program restart_arguments) image) l c d st) ≡ answer_of r after
 
 -- it stands in its area, and its fields fit their bytes
@@ -42,7 +41,7 @@ Unchecked chain arguments program restart_arguments st l c k = Step.sound (lent_
 -- what it then comes to
 abbrev pub Performs : ℕ → (chain arguments program restart_arguments image faults : List ℕ) → Location → Ccw → Command → Abstract.Drive → List ℕ → Answer → List ℕ → Type 0
 Performs last chain arguments program restart_arguments image faults l c k d st r after =
-    (fs : List Fault) → faults_at faults 0 ≡ some fs
+    (fs : List Fault) → faults_at faults 0 ≡ Some fs
     → Step.carry fs st (Step.perform (setting_with last (lent_of chain arguments program restart_arguments) image) l c d st k) ≡ answer_of r after
 
 -- ---- multitrack commands

@@ -12,7 +12,7 @@ ghost use Rattle.read_command.specs.Reads.{Begun};
 ghost use Rattle.execute.specs.Executes.{Steps, Executes, InArea, Unchecked, Performs, single_track, ReachesFor};
 
 use address::Model;
-use channel::{Ccw, Fetched, Location};
+use channel::{Ccw, Location};
 use command::{Answer, Check, State};
 use drive::Command;
 use heads::Reached;
@@ -161,7 +161,7 @@ fn execute(
         image.now faults.now l c (drive_of d) before result after }
     ensures kept { Kept image.now result }
 {
-    let k = drive::command_of(c.command);
+    let k = Command::from(c.command);
     if !drive::sound(
         l,
         c,
@@ -213,8 +213,8 @@ pub fn step(
     let at = s.at;
     let d = s.drive;
     match channel::resolve(chain, program, last, at) {
-        Fetched::Broken(l) => command::program_check(l, d),
-        Fetched::Got(l, c) => execute(
+        Err(l) => command::program_check(l, d),
+        Ok((l, c)) => execute(
             m,
             chain,
             arguments,

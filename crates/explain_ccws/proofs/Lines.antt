@@ -3,6 +3,7 @@
 --   argument-before, -past, -long, argument-put       the argument that it names: none, or one
 --   slot_none, slot_put                               the line of a place of an area
 --   used_here, used_turn, used_all                    how many CCWs of a restart program are used
+use Rattle.std.specs.Prelude.{Option, Some, None}
 use Prim.Native.Nat.{ℕ, zero, suc, ◌+◌, ◌-◌, ◌*◌, ◌<◌, ◌≤◌}
 use native.Mathlib.Nat.{not-suc-le-zero, add-sub_cancel_left}
 use native.Mathlib.Numerals.{sub-one}
@@ -18,10 +19,8 @@ use Rattle.text.specs.Text.{Puts, ascii, number, bytes_text}
 use Rattle.text.proofs.Written.{puts_then, puts_none}
 use Rattle.channel.specs.declared.Ccw.{Ccw}
 use Rattle.channel.specs.declared.Location.TheVariants.{Chain}
-use Rattle.channel.specs.declared.Slot.{Slot}
-use Rattle.channel.specs.declared.Slot.TheVariants.{Holds, Past}
 use Rattle.channel.specs.Ccw.{fetch, fetch_in}
-use Rattle.channel.specs.Fetch.{slot_of, Fetches}
+use Rattle.channel.specs.Fetch.{Fetches}
 use Rattle.explain_names.specs.Names.{command_name, flags_text}
 use Rattle.explain_ccws.specs.Ccws.{head_text, operand_text, names_argument, argument_text, ccw_line, slot_line, used_from}
 
@@ -76,16 +75,16 @@ module _ (restart_arguments : List ℕ) (w : Ccw) where
 
 -- ---- a place of an area
 
-module _ (label : List ℕ) (origin : ℕ) (s restart_arguments : List ℕ) (i : ℕ) {t : List ℕ} (o : Slot) (f : Fetches s t (Chain (i * 8)) o) where
-  fetched : slot_of o ≡ fetch_in s (i * 8)
+module _ (label : List ℕ) (origin : ℕ) (s restart_arguments : List ℕ) (i : ℕ) {t : List ℕ} (o : Option Ccw) (f : Fetches s t (Chain (i * 8)) o) where
+  fetched : o ≡ fetch_in s (i * 8)
   unfolding fetch
   fetched = f (record { chain = s; arguments = []; program = t; restart_arguments = [] }) refl refl
 
-  pub slot_none : (x : List ℕ) (at : ℕ) → o ≡ Past → Puts x at (slot_line label origin s restart_arguments i) x at
+  pub slot_none : (x : List ℕ) (at : ℕ) → o ≡ None → Puts x at (slot_line label origin s restart_arguments i) x at
   unfolding slot_line opt
   slot_none x at e = rw (← fetched, e) (puts_none x at)
 
-  pub slot_put : {x y : List ℕ} {at r : ℕ} {w : Ccw} → o ≡ Holds w → Puts x at (ccw_line label (origin + i * 8) restart_arguments w) y r
+  pub slot_put : {x y : List ℕ} {at r : ℕ} {w : Ccw} → o ≡ Some w → Puts x at (ccw_line label (origin + i * 8) restart_arguments w) y r
       → Puts x at (slot_line label origin s restart_arguments i) y r
   unfolding slot_line opt
   slot_put e p = rw (← fetched, e) p

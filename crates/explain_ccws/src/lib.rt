@@ -5,7 +5,7 @@ ghost use Rattle.std.specs.Prelude.{◌≡◌, ◌+◌, ◌*◌, ◌<◌, ◌≤
 ghost use Rattle.text.specs.Text.{Puts};
 ghost use Rattle.explain_ccws.specs.Ccws.{head_text, operand_text, argument_text, ccw_line, slot_line, ccw_lines, used_in};
 
-use channel::{Ccw, Location, Slot};
+use channel::{Ccw, Location};
 
 // The area's name, the CCW's address and its command's code.
 fn put_head(out: &mut [u8], at: usize, label: &[u8], place: usize, command: u8) -> usize
@@ -100,7 +100,7 @@ fn put_slot(
     ensures upper_bound { result ≤ at + 682 }
 {
     let a = i * 8;
-    let Slot::Holds(c) = channel::fetch(s, &s[..0], Location::Chain(a)) else {
+    let Some(c) = channel::fetch(s, &s[..0], Location::Chain(a)) else {
         return at;
     };
     put_ccw(out, at, label, origin + a, restart_arguments, c)

@@ -2,10 +2,10 @@
 #![tactic(auto)]
 
 ghost use Rattle.std.specs.Prelude.{◌≡◌, ◌≤◌, length};
-ghost use Rattle.explain_input.specs.Input.{parts_of};
-ghost use Rattle.explain_input.specs.Found.{end_of, EndWithin, found_in, Inside};
+ghost use Rattle.explain_input.specs.Input.{last_at, parts_of};
+ghost use Rattle.explain_input.specs.Found.{LastInside, found_in, Inside};
 
-use fields::{Tagged, Wanted};
+use fields::Field;
 
 // Where the parts stand: the chain up to the report, the report up to the extent's field, the extent up to the end.
 #[derive(Clone, Copy)]
@@ -16,71 +16,50 @@ pub struct Places {
     pub extent: usize,
 }
 
+// The extent's field, with its own place.
 #[derive(Clone, Copy)]
-pub enum Found {
-    At(Places),
-    Bad,
+struct Last {
+    at: usize,
+    field: Field,
 }
 
-// The extent's field: its own place, that of its contents, and the place behind it.
-#[derive(Clone, Copy)]
-enum Last {
-    Field {
-        at: usize,
-        start: usize,
-        next: usize,
-    },
-    Missing,
-}
-
-// The first field with tag 32 from a place on, with whole fields before it.
-fn last_at(input: &[u8], from: usize) -> Last
+// The first field with tag 32 from a place on, if only whole fields stand before it.
+fn last_at(input: &[u8], from: usize) -> Option<Last>
     requires { from ≤ length input.now }
-    ensures value { result ≡ end_of input.now from }
-    ensures end_within { EndWithin result from (length input.now) }
+    ensures value { result ≡ last_at input.now from }
+    ensures inside { LastInside result from (length input.now) }
 {
     let mut at = from;
     while at < input.len() {
-        let Tagged::Field { tag, start, next } = fields::field_at(input, at) else {
-            return Last::Missing;
-        };
-        if tag == 0x32 {
-            return Last::Field {
+        let field = fields::field_at(input, at)?;
+        if field.tag == 0x32 {
+            return Some(Last {
                 at: at,
-                start: start,
-                next: next,
-            };
+                field: field,
+            });
         }
-        at = next;
+        at = field.next;
     }
-    Last::Missing
+    None
 }
 
 // The parts, or that the input is too long or its chain or extent is not there, or something stands behind the extent.
-pub fn find(input: &[u8]) -> Found
+pub fn find(input: &[u8]) -> Option<Places>
     ensures value { found_in input.now result ≡ parts_of input.now }
     ensures inside { Inside result (length input.now) }
 {
     if 60000 < input.len() {
-        return Found::Bad;
+        return None;
     }
-    let Wanted::Found {
-        start: chain,
-        next: report,
-    } = fields::wanted_at(input, 0, 0x30)
-    else {
-        return Found::Bad;
-    };
-    let Last::Field { at, start, next } = last_at(input, report) else {
-        return Found::Bad;
-    };
-    if next != input.len() {
-        return Found::Bad;
+    let chain = fields::wanted_at(input, 0, 0x30)?;
+    let last = last_at(input, chain.next)?;
+    if last.field.next != input.len() {
+        return None;
     }
-    Found::At(Places {
-        chain: chain,
-        report: report,
-        end: at,
-        extent: start,
+    Some(Places {
+        chain: chain.start,
+        report: chain.next,
+        end: last.at,
+        extent: last.field.start,
     })
 }

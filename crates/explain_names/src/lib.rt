@@ -50,7 +50,7 @@ fn ccw_index(c: Ccw) -> usize
     if c.is_tic() {
         return 0;
     }
-    command_index(drive::command_of(c.command))
+    command_index(Command::from(c.command))
 }
 
 pub fn put_command(out: &mut [u8], at: usize, c: Ccw) -> usize
@@ -133,7 +133,7 @@ pub fn put_refusal(out: &mut [u8], at: usize, q: Question) -> usize
     ensures puts { Puts out.old at (refusal_line q) out.new result }
     ensures upper_bound { result ≤ at + 76 }
 {
-    let n = base::wide(questions::number(q));
+    let n = base::wide(u8::from(q));
     let colon = status::put_refused(out, at, q);
     let question = text::put(out, colon, b": ");
     let end = words::put_item(

@@ -12,6 +12,7 @@ use mathlib.Core.Bool.{true, false}
 use mathlib.Core.List.{List, [], ◌∷◌}
 use lib.ListN.{get_or}
 use borrow.Author.Tests.{eq-eqb, ne_eqb}
+use Rattle.std.specs.Prelude.{Option, Some, None}
 use Rattle.base.specs.Choice.{pick, opt}
 use Rattle.base.specs.Bits.{bit_on}
 use Rattle.text.specs.Text.{Puts, ascii, digits, number}
@@ -19,9 +20,7 @@ use Rattle.text.proofs.Written.{puts_then, puts_none}
 use Rattle.words.specs.Each.{each}
 use Rattle.recovery.specs.Table.{rows}
 use Rattle.error_table.specs.declared.Row.{Row}
-use Rattle.error_table.specs.declared.Matched.{Matched}
-use Rattle.error_table.specs.declared.Matched.TheVariants.{First, Nothing}
-use Rattle.error_table.specs.Table.{row_of, first_row, matched_of, Matches}
+use Rattle.error_table.specs.Table.{code_of, row_of, first_row, matched_of, Matches}
 use Rattle.explain_names.specs.Names.{sense_name, action_name}
 use Rattle.explain_sense.specs.Sense.{bit_in, bit_text, sense_line, truncation_line, sense_lines, row_bit, row_bits, row_head, row_line, row_text}
 
@@ -74,19 +73,19 @@ unfolding row_head
 head_put n asked a b c d = puts_then (puts_then (puts_then a b) c) d
 
 pub line_put : {x y₁ y₂ y₃ y : List ℕ} {at r₁ r₂ r₃ r : ℕ} (n : ℕ) (w : Row)
-    → Puts x at (row_head n (w.0 ∷ w.1 ∷ w.2 ∷ [])) y₁ r₁ → Puts y₁ r₁ (ascii ", action ") y₂ r₂ → Puts y₂ r₂ (action_name w.3) y₃ r₃
+    → Puts x at (row_head n (w.zero ∷ w.one ∷ w.two ∷ [])) y₁ r₁ → Puts y₁ r₁ (ascii ", action ") y₂ r₂ → Puts y₂ r₂ (action_name (code_of w.action)) y₃ r₃
     → Puts y₃ r₃ (ascii "\n") y r → Puts x at (row_line n (row_of w)) y r
 unfolding row_line
 line_put n w a b c d = puts_then (puts_then (puts_then a b) c) d
 
-module _ (sense : List ℕ) (m : Matched) (h : Matches (get_or sense 0 0) (get_or sense 1 0) (get_or sense 2 0) m) where
+module _ (sense : List ℕ) (m : Option (ℕ × Row)) (h : Matches (get_or sense 0 0) (get_or sense 1 0) (get_or sense 2 0) m) where
   matched : matched_of m ≡ first_row 1 rows sense
   matched = h sense refl refl refl
 
-  pub row_none : (x : List ℕ) (at : ℕ) → m ≡ Nothing → Puts x at (row_text sense) x at
+  pub row_none : (x : List ℕ) (at : ℕ) → m ≡ None → Puts x at (row_text sense) x at
   unfolding row_text opt
   row_none x at e = rw (← matched, e) (puts_none x at)
 
-  pub row_put : {x y : List ℕ} {at r n : ℕ} {w : Row} → m ≡ First n w → Puts x at (row_line n (row_of w)) y r → Puts x at (row_text sense) y r
+  pub row_put : {x y : List ℕ} {at r n : ℕ} {w : Row} → m ≡ Some (n, w) → Puts x at (row_line n (row_of w)) y r → Puts x at (row_text sense) y r
   unfolding row_text opt
   row_put e p = rw (← matched, e) p

@@ -6,7 +6,7 @@ ghost use Rattle.text.specs.Text.{Puts};
 ghost use Rattle.error_table.specs.Table.{row_of};
 ghost use Rattle.explain_sense.specs.Sense.{bit_in, bit_text, sense_line, truncation_line, sense_lines, row_bit, row_bits, row_head, row_line, row_text};
 
-use error_table::{Matched, Row};
+use error_table::Row;
 
 // ---- a bit of sense bytes 0 to 2, by its number from bit 0 of byte 0 on
 
@@ -132,10 +132,10 @@ fn put_line(out: &mut [u8], at: usize, n: usize, r: Row) -> usize
     ensures puts { Puts out.old at (row_line n (row_of r)) out.new result }
     ensures upper_bound { result ≤ at + 177 }
 {
-    let asked = [r.0, r.1, r.2];
+    let asked = [r.zero, r.one, r.two];
     let comma = put_row_head(out, at, n, &asked);
     let action = text::put(out, comma, b", action ");
-    let end = explain_names::put_action_name(out, action, r.3);
+    let end = explain_names::put_action_name(out, action, r.action.code());
     text::put(out, end, b"\n")
 }
 
@@ -146,7 +146,7 @@ pub fn put_row(out: &mut [u8], at: usize, sense: &[u8]) -> usize
     ensures puts { Puts out.old at (row_text sense.now) out.new result }
     ensures upper_bound { result ≤ at + 177 }
 {
-    let Matched::First(n, r) = error_table::row_for(sense[0], sense[1], sense[2]) else {
+    let Some((n, r)) = error_table::row_for(sense[0], sense[1], sense[2]) else {
         return at;
     };
     put_line(out, at, n, r)

@@ -5,6 +5,7 @@
 --   parts_put                      the text for the parts
 --   bad_put, whole_put             an input without its parts, and one with them
 --   ordered                        the parts lie in the input
+use Rattle.std.specs.Prelude.{Option, Some, None, Result, Ok, Err}
 use Prim.Native.Nat.{ℕ, ◌-◌, ◌≤◌}
 use native.Mathlib.Omega.{arith}
 use mathlib.Core.Path.{◌≡◌, ◌∙◌}
@@ -19,8 +20,6 @@ use Rattle.questions.specs.declared.Question.{Question}
 use Rattle.address.specs.declared.Model.TheVariants.{One}
 use Rattle.recovery.specs.Report.{report_from}
 use Rattle.report.specs.declared.Report as Code
-use Rattle.report.specs.declared.Reported.{Reported}
-use Rattle.report.specs.declared.Reported.TheVariants.{Well, Refused}
 use Rattle.report.specs.Reported.{reported_of, Bounds, Bounded}
 use Rattle.recovered.specs.declared.Recovered.{Recovered}
 use Rattle.recovered.specs.Applied.{with}
@@ -30,11 +29,10 @@ use Rattle.explain_ccws.specs.Ccws.{ccw_lines}
 use Rattle.explain_sense.specs.Sense.{sense_lines, row_text}
 use Rattle.explain_answer.specs.Answer.{answer_text}
 use Rattle.explain_input.specs.declared.Places.{Places}
-use Rattle.explain_input.specs.declared.Found as Found
-use Rattle.explain_input.specs.declared.Found.TheVariants.{At, Bad}
 use Rattle.explain_input.specs.Input.{parts_of}
 use Rattle.explain_input.specs.Found.{parts_in, found_in, Ordered, Inside}
 use Rattle.explain_session.specs.Session.{sense_of, report_text, recovery_of, explained, printed}
+use Rattle.report.specs.declared.Report.{Report}
 
 pub told_put : {x y₁ y₂ y : List ℕ} {at r₁ r₂ r : ℕ} (o : Recovered) (sense st p a : List ℕ)
     → Puts x at (sense_lines sense) y₁ r₁ → Puts y₁ r₁ (row_text sense) y₂ r₂ → Puts y₂ r₂ (answer_text o sense st p a) y r
@@ -44,16 +42,16 @@ told_put o sense st p a l m n = puts_then (puts_then l m) n
 
 -- ---- the sense of a report
 
-module _ (s : List ℕ) (o : Reported) (e : reported_of s o ≡ report_from s) where
-  pub well_sense : {w : Code.Report} → o ≡ Well w → take 24 (drop 3 s) ≡ sense_of s
+module _ (s : List ℕ) (o : Result Report Question) (e : reported_of s o ≡ report_from s) where
+  pub well_sense : {w : Code.Report} → o ≡ Ok w → take 24 (drop 3 s) ≡ sense_of s
   unfolding sense_of opt part
   well_sense h = rw (← e, h)
 
-  pub ill_sense : {q : Question} → o ≡ Refused q → replicate 24 0 ≡ sense_of s
+  pub ill_sense : {q : Question} → o ≡ Err q → replicate 24 0 ≡ sense_of s
   unfolding sense_of opt
   ill_sense h = rw (← e, h)
 
-pub long_report : (s : List ℕ) {o : Reported} {w : Code.Report} → o ≡ Well w → Bounded s o → 27 ≤ length s
+pub long_report : (s : List ℕ) {o : Result Report Question} {w : Code.Report} → o ≡ Ok w → Bounded s o → 27 ≤ length s
 long_report s {o} {w} h b =
     let g : Bounds s w = rw h at b in
     omega (arith, g.long)
@@ -75,14 +73,14 @@ module _ (s : List ℕ) (p : Places) (o : Recovered) (st q a : List ℕ)
 
 -- ---- the input
 
-module _ (s : List ℕ) (f : Found.Found) (e : found_in s f ≡ parts_of s) where
-  pub bad_put : {x y : List ℕ} {n : ℕ} → f ≡ Bad → Puts x 0 (refusal_line Question.Areas) y n → Puts x 0 (printed s) y n
+module _ (s : List ℕ) (f : Option Places) (e : found_in s f ≡ parts_of s) where
+  pub bad_put : {x y : List ℕ} {n : ℕ} → f ≡ None → Puts x 0 (refusal_line Question.Areas) y n → Puts x 0 (printed s) y n
   unfolding printed opt
   bad_put h q = rw (← e, h) q
 
-  pub whole_put : {x y : List ℕ} {n : ℕ} {p : Places} → f ≡ At p → Puts x 0 (explained (parts_in s p)) y n → Puts x 0 (printed s) y n
+  pub whole_put : {x y : List ℕ} {n : ℕ} {p : Places} → f ≡ Some p → Puts x 0 (explained (parts_in s p)) y n → Puts x 0 (printed s) y n
   unfolding printed opt
   whole_put h q = rw (← e, h) q
 
-pub ordered : {f : Found.Found} {p : Places} {n : ℕ} → f ≡ At p → Inside f n → Ordered p n
+pub ordered : {f : Option Places} {p : Places} {n : ℕ} → f ≡ Some p → Inside f n → Ordered p n
 ordered e h = rw e at h

@@ -7,10 +7,9 @@ ghost use Rattle.explain_input.specs.Found.{parts_in, Ordered};
 ghost use Rattle.explain_session.specs.Session.{room, sense_of, report_text, explained, printed};
 
 use address::Model;
-use explain_input::{Found, Places};
+use explain_input::Places;
 use questions::Question;
 use recovered::Recovered;
-use report::Reported;
 
 // The bytes of the longest text: 256 CCWs of 682, sense bits of 1,855, a row of 177, an answer of 5,754.
 pub const ROOM: usize = 182378;
@@ -55,7 +54,7 @@ fn put_reported(
         Puts out.old at lines out.new result }
     ensures upper_bound { result ≤ at + 7786 }
 {
-    let Reported::Well(_) = report::read(report) else {
+    let Ok(_) = report::read(report) else {
         let unread = [0u8; 24];
         return put_told(out, at, r, &unread, storage, program, restart_arguments);
     };
@@ -110,7 +109,7 @@ pub fn run(input: &[u8], out: &mut [u8; ROOM]) -> usize
     ensures text { Puts out.old 0 (printed input.now) out.new result }
     ensures length { result ≤ length out.new }
 {
-    let Found::At(p) = explain_input::find(input) else {
+    let Some(p) = explain_input::find(input) else {
         return explain_names::put_refusal(out, 0, Question::Areas);
     };
     put_parts(input, p, out)

@@ -7,9 +7,8 @@ ghost use Rattle.faults.specs.FaultAt.{fault_in, fault_at, named, FaultFound, Na
 
 use address::{Address, Model};
 use base::FromEnd;
-use fields::Tagged;
-use pack::{RecordAt, TrackAt};
-use questions::{Checked, Question};
+use fields::Field;
+use questions::Question;
 
 // A fault as it was read, with the place behind its field. The displacement counts back from the end of the data area.
 #[derive(Clone, Copy)]
@@ -23,25 +22,20 @@ pub struct Listed {
     pub next: usize,
 }
 
-#[derive(Clone, Copy)]
-pub enum FaultAt {
-    Found(Listed),
-    NoFault,
-}
-
 // The fault that a field is, if it is one.
-fn fault_in(faults: &[u8], tag: u8, start: usize, next: usize) -> FaultAt
-    requires start_le_next { start ≤ next }
-    requires next_in_bounds { next ≤ length faults.now }
-    ensures { result ≡ fault_in faults.now tag start next }
+fn fault_in(faults: &[u8], f: Field) -> Option<Listed>
+    requires start_le_next { f.start ≤ f.next }
+    requires next_in_bounds { f.next ≤ length faults.now }
+    ensures { result ≡ fault_in faults.now f }
 {
-    if tag != 0x20 {
-        return FaultAt::NoFault;
+    if f.tag != 0x20 {
+        return None;
     }
-    if next - start != 10 {
-        return FaultAt::NoFault;
+    if f.next - f.start != 10 {
+        return None;
     }
-    FaultAt::Found(Listed {
+    let start = f.start;
+    Some(Listed {
         at: Address {
             cylinder: base::be16(faults, start),
             head: base::be16(faults, start + 2),
@@ -51,53 +45,47 @@ fn fault_in(faults: &[u8], tag: u8, start: usize, next: usize) -> FaultAt
         first: faults[start + 7],
         second: faults[start + 8],
         third: faults[start + 9],
-        next: next,
+        next: f.next,
     })
 }
 
-pub fn fault_at(faults: &[u8], at: usize) -> FaultAt
+// The fault whose field begins at a place, if one does.
+pub fn fault_at(faults: &[u8], at: usize) -> Option<Listed>
     ensures { result ≡ fault_at faults.now at }
 {
-    let Tagged::Field { tag, start, next } = fields::field_at(faults, at) else {
-        return FaultAt::NoFault;
-    };
-    fault_in(faults, tag, start, next)
+    let f = fields::field_at(faults, at)?;
+    fault_in(faults, f)
 }
 
+// Whether a fault names a record.
 fn names(l: Listed, a: Address, r: usize) -> bool
     ensures { result ≡ named l a r }
 {
-    let at = l.at;
-    if !at.same(a) {
+    if l.at != a {
         return false;
     }
     l.r == r
 }
 
 // The fault that names a record, from a place in the list on.
-pub fn find_fault(faults: &[u8], at: usize, a: Address, r: usize) -> FaultAt
+pub fn find_fault(faults: &[u8], at: usize, a: Address, r: usize) -> Option<Listed>
     ensures { FaultFound faults.now at a r result }
 {
     let mut here = at;
     loop {
-        let FaultAt::Found(l) = fault_at(faults, here) else {
-            return FaultAt::NoFault;
-        };
+        let l = fault_at(faults, here)?;
         if names(l, a, r) {
-            return FaultAt::Found(l);
+            return Some(l);
         }
-        let next = l.next;
-        here = next;
+        here = l.next;
     }
 }
 
+// Whether a list names a record, from a place on.
 fn named_from(faults: &[u8], at: usize, a: Address, r: usize) -> bool
     ensures { NamedFrom faults.now at a r result }
 {
-    match find_fault(faults, at, a, r) {
-        FaultAt::Found(_) => true,
-        FaultAt::NoFault => false,
-    }
+    find_fault(faults, at, a, r).is_some()
 }
 
 // Whether a fault names a record of the image, from R1 on, and lies in its data.
@@ -107,10 +95,10 @@ fn sound_fault(image: &[u8], l: Listed) -> bool
     if l.r == 0 {
         return false;
     }
-    let TrackAt::Records(at) = pack::find_track(image, l.at) else {
+    let Some(at) = pack::find_track(image, l.at) else {
         return false;
     };
-    let RecordAt::Located(p) = pack::find_record(image, at, l.r) else {
+    let Some(p) = pack::find_record(image, at, l.r) else {
         return false;
     };
     let n = l.displacement.0;
@@ -126,37 +114,35 @@ pub fn sound_faults(image: &[u8], faults: &[u8]) -> bool
 {
     let mut here = 0;
     while here < faults.len() {
-        let FaultAt::Found(l) = fault_at(faults, here) else {
+        let Some(l) = fault_at(faults, here) else {
             return false;
         };
         if !sound_fault(image, l) {
             return false;
         }
-        let next = l.next;
-        let a = l.at;
-        if named_from(faults, next, a, l.r) {
+        if named_from(faults, l.next, l.at, l.r) {
             return false;
         }
-        here = next;
+        here = l.next;
     }
     true
 }
 
 // Questions 1, 2 and 3 for an image and a fault list of any size.
-pub fn check_faults(m: Model, image: &[u8], faults: &[u8]) -> Checked
+pub fn check_faults(m: Model, image: &[u8], faults: &[u8]) -> Result<(), Question>
     ensures { result ≡ faults_answer m image.now faults.now }
 {
     if !questions::image_fits(image.len()) {
-        return Checked::Refused(Question::Areas);
+        return Err(Question::Areas);
     }
     if !questions::faults_fit(faults.len()) {
-        return Checked::Refused(Question::Areas);
+        return Err(Question::Areas);
     }
     if !image::well_formed(m, image) {
-        return Checked::Refused(Question::Image);
+        return Err(Question::Image);
     }
     if sound_faults(image, faults) {
-        return Checked::Accepted;
+        return Ok(());
     }
-    Checked::Refused(Question::Faults)
+    Err(Question::Faults)
 }

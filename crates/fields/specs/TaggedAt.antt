@@ -1,29 +1,16 @@
 -- What the readers of a field answer: the field at a place, by its tag and the places of its contents.
-use Rattle.std.specs.Prelude.{ℕ, ◌+◌, ◌-◌, List, eqb, ltb, length, get_or}
-use Rattle.base.specs.Choice.{pick}
+use Rattle.std.specs.Prelude.{ℕ, ◌+◌, ◌-◌, List, Option, Some, None, eqb, ltb, length, get_or}
+use Rattle.base.specs.Choice.{pick, opt}
 use Rattle.base.specs.Bytes.{be16_at}
-use Rattle.fields.specs.declared.Tagged.{Tagged}
-use Rattle.fields.specs.declared.Tagged.TheVariants.{Field, Torn}
-use Rattle.fields.specs.declared.Wanted.{Wanted}
-use Rattle.fields.specs.declared.Wanted.TheVariants.{Found, Missing}
+use Rattle.fields.specs.declared.Field.{Field}
 
 -- the field at a place, if a whole one stands there
-unfoldable pub tagged_at : List ℕ → ℕ → Tagged
+unfoldable pub tagged_at : List ℕ → ℕ → Option Field
 tagged_at s at =
-    pick (ltb (length s - at) 3) Torn
-    (pick (ltb (length s - (at + 3)) (be16_at s (at + 1))) Torn
-    (Field (get_or s at 0) (at + 3) (at + 3 + be16_at s (at + 1))))
-
--- an answer by cases, the field's tag and places handed on
-abbrev pub on_tagged : {A : Type 0} → Tagged → A → (ℕ → ℕ → ℕ → A) → A
-on_tagged Torn y f = y
-on_tagged (Field tag start next) y f = f tag start next
+    pick (ltb (length s - at) 3) None
+    (pick (ltb (length s - (at + 3)) (be16_at s (at + 1))) None
+    (Some (record { tag = get_or s at 0; start = at + 3; next = at + 3 + be16_at s (at + 1) })))
 
 -- the field of one tag at a place, if it stands there
-unfoldable pub wanted_at : List ℕ → ℕ → ℕ → Wanted
-wanted_at s at tag = on_tagged (tagged_at s at) Missing (λ t start next. pick (eqb t tag) (Found start next) Missing)
-
--- an answer by cases, the places of the contents handed on
-abbrev pub on_wanted : {A : Type 0} → Wanted → A → (ℕ → ℕ → A) → A
-on_wanted Missing y f = y
-on_wanted (Found start next) y f = f start next
+unfoldable pub wanted_at : List ℕ → ℕ → ℕ → Option Field
+wanted_at s at tag = opt (tagged_at s at) None (λ f. pick (eqb f.tag tag) (Some f) None)

@@ -4,57 +4,43 @@
 ghost use Rattle.std.specs.Prelude.{◌≡◌};
 ghost use Rattle.fields.specs.TaggedAt.{tagged_at, wanted_at};
 
-// What stands at a place: a whole field, whose contents lie from `start` up to `next`, or none, at the end too.
+// A field by its places: its contents lie from `start` up to `next`.
 #[derive(Clone, Copy)]
-pub enum Tagged {
-    Field { tag: u8, start: usize, next: usize },
-    Torn,
+pub struct Field {
+    pub start: usize,
+    pub next: usize,
+    pub tag: u8,
 }
 
-pub fn field_at(s: &[u8], at: usize) -> Tagged
+// The field at a place, if a whole one stands there.
+pub fn field_at(s: &[u8], at: usize) -> Option<Field>
     ensures { result ≡ tagged_at s.now at }
 {
     if s.len() <= at {
-        return Tagged::Torn;
+        return None;
     }
     if s.len() - at < 3 {
-        return Tagged::Torn;
+        return None;
     }
     let start = at + 3;
     let len = base::be16(s, at + 1);
     if s.len() - start < len {
-        return Tagged::Torn;
+        return None;
     }
-    Tagged::Field {
+    Some(Field {
         tag: s[at],
         start: start,
         next: start + len,
-    }
+    })
 }
 
-// Whether a field of one tag stands at a place. Found: its contents lie from `start` up to `next`. Missing: another tag, or no whole field.
-#[derive(Clone, Copy)]
-pub enum Wanted {
-    Found { start: usize, next: usize },
-    Missing,
-}
-
-pub fn wanted_at(s: &[u8], at: usize, tag: u8) -> Wanted
+// The field at a place, if a whole one with this tag stands there.
+pub fn wanted_at(s: &[u8], at: usize, tag: u8) -> Option<Field>
     ensures { result ≡ wanted_at s.now at tag }
 {
-    let Tagged::Field {
-        tag: t,
-        start,
-        next,
-    } = field_at(s, at)
-    else {
-        return Wanted::Missing;
-    };
-    if t != tag {
-        return Wanted::Missing;
+    let f = field_at(s, at)?;
+    if f.tag != tag {
+        return None;
     }
-    Wanted::Found {
-        start: start,
-        next: next,
-    }
+    Some(f)
 }

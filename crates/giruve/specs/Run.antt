@@ -1,11 +1,12 @@
 -- What the calls that run a chain hand out: a number, and the bytes of the lent areas.
-use Rattle.std.specs.Prelude.{ℕ, ◌≡◌, List, eqb, length}
+use Rattle.std.specs.Prelude.{ℕ, ◌≡◌, List, eqb, length, Result}
 use Rattle.base.specs.Choice.{pick}
 use Rattle.questions.specs.declared.Question.TheVariants as Question
 use Rattle.questions.specs.Number.{number_of}
-use Rattle.trial.specs.declared.Trial.{Trial}
 use Rattle.trial.specs.Trial.{Called, refused, answered, shown_of, Conclusion, called_of}
 use Rattle.run_answer.specs.RunAnswer.{answer_bytes, run_return}
+use Rattle.trial.specs.declared.Ran.{Ran}
+use Rattle.questions.specs.declared.Question.{Question}
 
 -- the refusing question's number, or what the run returns
 unfoldable pub call_number : Called → ℕ
@@ -33,5 +34,5 @@ run_handed a st k =
     pick (eqb (length a) 36) (run_handing (call_number k.answer) (answer_after a k.answer) k.storage) (run_handing (number_of Question.Areas) a st)
 
 -- what the code hands out of a run, whatever storage is behind it
-abbrev pub HandsOut : List ℕ → Trial → ℕ → List ℕ → Type 0
+abbrev pub HandsOut : List ℕ → Result Ran Question → ℕ → List ℕ → Type 0
 HandsOut a t n after = (st : List ℕ) → (n ≡ call_number (called_of t st)) × (after ≡ answer_after a (called_of t st))

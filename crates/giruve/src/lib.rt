@@ -11,16 +11,16 @@ ghost use Rattle.giruve.specs.Run.{HandsOut, run_handing, run_handed};
 ghost use Rattle.giruve.specs.Recover.{recovery_handing, recovery_handed};
 ghost use Rattle.giruve.specs.Reading.{reading_handing, ReadingHandsOut};
 
-use address::Known;
-use questions::{Checked, Question};
-use trial::Trial;
+use address::Model;
+use questions::Question;
+use trial::Ran;
 
 // Questions 1 and 2: 0, 1 or 2.
 pub fn giruve_check_image(model: u8, image: &[u8]) -> u8
     ensures { result ≡ answer_of (image_answer_by model image.now) }
 {
-    let Known::Model(m) = address::model_of(model) else {
-        return questions::number(Question::Areas);
+    let Ok(m) = Model::try_from(model) else {
+        return u8::from(Question::Areas);
     };
     questions::answer(image::check_image(m, image))
 }
@@ -29,8 +29,8 @@ pub fn giruve_check_image(model: u8, image: &[u8]) -> u8
 pub fn giruve_check_faults(model: u8, image: &[u8], faults: &[u8]) -> u8
     ensures { result ≡ answer_of (faults_answer_by model image.now faults.now) }
 {
-    let Known::Model(m) = address::model_of(model) else {
-        return questions::number(Question::Areas);
+    let Ok(m) = Model::try_from(model) else {
+        return u8::from(Question::Areas);
     };
     questions::answer(faults::check_faults(m, image, faults))
 }
@@ -39,8 +39,8 @@ pub fn giruve_check_faults(model: u8, image: &[u8], faults: &[u8]) -> u8
 pub fn giruve_check_extent(model: u8, extent: &[u8]) -> u8
     ensures { result ≡ answer_of (extent_answer_by model extent.now) }
 {
-    let Known::Model(m) = address::model_of(model) else {
-        return questions::number(Question::Areas);
+    let Ok(m) = Model::try_from(model) else {
+        return u8::from(Question::Areas);
     };
     questions::answer(address::check_extent(m, extent))
 }
@@ -57,9 +57,9 @@ pub fn giruve_check_areas(
     ensures { result ≡ answer_of (run_answer chain arguments storage image faults limit) }
 {
     if questions::run_areas(chain, arguments, storage, image, faults, limit) {
-        return questions::answer(Checked::Accepted);
+        return questions::answer(Ok(()));
     }
-    questions::answer(Checked::Refused(Question::Areas))
+    questions::answer(Err(Question::Areas))
 }
 
 // Question 1 for the restart areas, from their lengths: 0 or 1.
@@ -67,9 +67,9 @@ pub fn giruve_check_restart_areas(program: usize, restart_arguments: usize) -> u
     ensures { result ≡ answer_of (restart_answer program restart_arguments) }
 {
     if questions::restart_areas(program, restart_arguments) {
-        return questions::answer(Checked::Accepted);
+        return questions::answer(Ok(()));
     }
-    questions::answer(Checked::Refused(Question::Areas))
+    questions::answer(Err(Question::Areas))
 }
 
 // ---- runs
@@ -78,16 +78,16 @@ pub fn giruve_check_restart_areas(program: usize, restart_arguments: usize) -> u
 const ANSWER_LENGTH: usize = 36;
 
 // A run's number, with its bytes in the answer area; a refusal leaves the area as it was.
-fn hand_out(answer: &mut [u8], t: Trial) -> u8
+fn hand_out(answer: &mut [u8], t: Result<Ran, Question>) -> u8
     requires answer_len { length answer.old ≡ 36 }
     requires trial_low { TrialLow t }
     ensures { HandsOut answer.old t result answer.new }
 {
     match t {
-        Trial::Refused(q) => {
-            return questions::number(q);
+        Err(q) => {
+            return u8::from(q);
         }
-        Trial::Ran(r) => {
+        Ok(r) => {
             run_answer::put(answer, r);
             return run_answer::number(r);
         }
@@ -110,10 +110,10 @@ pub fn giruve_run(
         run_handing result answer.new storage.new ≡ run_handed answer.old storage.old called }
 {
     if answer.len() != ANSWER_LENGTH {
-        return questions::number(Question::Areas);
+        return u8::from(Question::Areas);
     }
-    let Known::Model(m) = address::model_of(model) else {
-        return questions::number(Question::Areas);
+    let Ok(m) = Model::try_from(model) else {
+        return u8::from(Question::Areas);
     };
     let t = trial::run(m, chain, arguments, storage, image, faults, limit);
     hand_out(answer, t)
@@ -136,10 +136,10 @@ pub fn giruve_run_restart(
         run_handing result answer.new storage.new ≡ run_handed answer.old storage.old called }
 {
     if answer.len() != ANSWER_LENGTH {
-        return questions::number(Question::Areas);
+        return u8::from(Question::Areas);
     }
-    let Known::Model(m) = address::model_of(model) else {
-        return questions::number(Question::Areas);
+    let Ok(m) = Model::try_from(model) else {
+        return u8::from(Question::Areas);
     };
     let t = trial::run_restart(
         m,
@@ -171,10 +171,10 @@ pub fn giruve_recover(
         after ≡ recovery_handed answer.old storage.old program.old restart_arguments.old called }
 {
     if answer.len() != 10 {
-        return questions::number(Question::Areas);
+        return u8::from(Question::Areas);
     }
-    let Known::Model(m) = address::model_of(model) else {
-        return questions::number(Question::Areas);
+    let Ok(m) = Model::try_from(model) else {
+        return u8::from(Question::Areas);
     };
     let r = recover::recover(
         m,
@@ -208,10 +208,10 @@ pub fn giruve_reading(
         extent.now limit program.old restart_arguments.old list.old answer.old after }
 {
     if answer.len() != 11 {
-        return questions::number(Question::Areas);
+        return u8::from(Question::Areas);
     }
-    let Known::Model(m) = address::model_of(model) else {
-        return questions::number(Question::Areas);
+    let Ok(m) = Model::try_from(model) else {
+        return u8::from(Question::Areas);
     };
     let o = whole_reading::read(
         m,

@@ -2,10 +2,10 @@
 --   stepped_two_heads    how its run ends
 --   met                  the state from which its last command meets the mask
 --   seeks_head_three     what recovery makes of the report of this end
+use Rattle.std.specs.Prelude.{Some}
 use Prim.Native.Nat.{ℕ}
 use mathlib.Core.Path.{◌≡◌, refl}
 use mathlib.Core.Bool.{true}
-use mathlib.Core.Option.{some}
 use mathlib.Core.List.{List, [], ◌∷◌, ◌++◌}
 use lib.ListN.{replicate}
 use Rattle.base.specs.Choice.{pick, opt}
@@ -22,7 +22,6 @@ use Rattle.channel.specs.Csw.{csw_at}
 use Rattle.channel.specs.Ccw as Ccw
 use Rattle.channel.specs.Store.{put, store}
 use Rattle.channel.specs.Walk as Walk
-use Rattle.drive.specs.declared.FileMask.TheVariants.{Set}
 use Rattle.drive.specs.Drive as Drive
 use Rattle.drive.specs.Command as Command
 use Rattle.drive.specs.Step as Step
@@ -62,7 +61,7 @@ setting = record {
 
 -- the last CCW stands at 0030
 end : Step.End
-end = record { csw = record { address = 0x38; unit = 0x0e; channel = 0; count = 8 }; sense = 0 ∷ 4 ∷ 0 ∷ 0 ∷ 0 ∷ 0 ∷ 2 ∷ replicate 17 0; mask = Set 0x18; storage = [] }
+end = record { csw = record { address = 0x38; unit = 0x0e; channel = 0; count = 8 }; sense = 0 ∷ 4 ∷ 0 ∷ 0 ∷ 0 ∷ 0 ∷ 2 ∷ replicate 17 0; mask = Some 0x18; storage = [] }
 
 stepped_two_heads : Run.run_from [] setting 4096 (Chain 0) [] ≡ ended end
 unfolding chain arguments track setting end ccw_bytes pick opt part two three bit_on same on_pack track_in run put store csw_at Ccw.ccw_at Ccw.chains_data Ccw.chains_command Ccw.suppresses Ccw.skips Ccw.is_tic Ccw.formed Ccw.address_of Ccw.next Ccw.fetch_in Ccw.fetch Ccw.target Ccw.landed Ccw.follow Ccw.resolve Ccw.arguments_at Ccw.arguments_base Ccw.argument_inside Ccw.argument Ccw.storage_inside Walk.behind_place Walk.place_under Walk.readable Walk.chained Walk.walk Walk.incorrect_length Drive.initial Drive.at_index Drive.moved_past Drive.turn Drive.passes_index Drive.past_zero Drive.taken Drive.address_bytes Drive.identifier Drive.count_area Command.codes Command.look_up Command.command_of Step.no_sense Step.check_sense Step.refusal Step.refuse Step.onward Step.done Step.counted Step.plan_seek Step.plan_mask Step.protects Step.is_set Step.settable Step.sought Step.plan_transfer Step.included Step.bytes_of Step.area_of Step.plan_record Step.plan_place Step.plan_read Step.on_reached Step.protects_step Step.next_head Step.stepped Step.read_from Step.take_from Step.plan_read_multitrack Step.sound Step.perform Step.execute Step.dispatch Step.plan Step.length_status Step.settled Step.transferred Step.carry Step.step Run.start Run.tic_first Run.run_from
@@ -74,7 +73,7 @@ state = record {
   at = Chain 0x30;
   last = Chain 0x28;
   left = 0;
-  drive = record { at = record { cylinder = 0; head = 2 }; next = 2; passed = true; passes = 0; mask = Set 0x18 };
+  drive = record { at = record { cylinder = 0; head = 2 }; next = 2; passed = true; passes = 0; mask = Some 0x18 };
   storage = [];
 }
 
@@ -100,10 +99,10 @@ given = record {
 
 -- tag 14 is the argument of the chain's seek
 report : Report
-report = record { sense = end.sense; csw = end.csw; first = 0; mask = end.mask; seek = some (part arguments 0 6); tries = 0 }
+report = record { sense = end.sense; csw = end.csw; first = 0; mask = end.mask; seek = Some (part arguments 0 6); tries = 0 }
 
 seeks_head_three : (st : List ℕ) → Recovery.recover given report st
-    ≡ Recovery.restarts Recovery.ten_a (program_of (Set 0x18) (ccw_bytes 0x1a 0 0x50 5) 0x30) (restart_arguments_of (record { cylinder = 0; head = 3 }) (Set 0x18) 0 []) st
+    ≡ Recovery.restarts Recovery.ten_a (program_of (Some 0x18) (ccw_bytes 0x1a 0 0x50 5) 0x30) (restart_arguments_of (record { cylinder = 0; head = 3 }) (Some 0x18) 0 []) st
 unfolding arguments setting state end given report part pick opt before on_pack within Drive.at_index Step.next_head Step.sought Recovery.seek_allowed Recovery.user_track restart_at met
 seeks_head_three st =
     (goes_on_behind given [] setting state end report (record { cylinder = 0; head = 0 }) st refl refl met (record { sense = refl; csw = refl; mask = refl }) refl refl).1

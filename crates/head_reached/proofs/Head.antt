@@ -4,11 +4,11 @@
 --   ended_by           the end that it makes
 --   goes_on_behind     the restart
 --   eight_ten_stay     actions 8 and 10, whatever sense byte 6 holds
+use Rattle.std.specs.Prelude.{Some}
 use Prim.Native.Nat.{ℕ, ◌+◌, ◌-◌, ◌<◌}
 use native.Mathlib.Omega.{arith}
 use mathlib.Core.Path.{◌≡◌, refl, ap, sym, ◌∙◌}
 use mathlib.Core.Bool.{true, false, ◌&&◌, not}
-use mathlib.Core.Option.{some}
 use mathlib.Core.List.{List}
 use lib.Dec.{eqb}
 use lib.ListN.{length, get_or}
@@ -117,7 +117,7 @@ executed fs w s e p = rw p.comes at p.ends_it
 -- ---- the restart
 
 -- the row of a protected step: "1.5→10"
-to_ten : (head : ℕ) → action_for rows (check_sense (protected_step head)) ≡ some 10
+to_ten : (head : ℕ) → action_for rows (check_sense (protected_step head)) ≡ Some 10
 unfolding action_for rows Table.fits Table.covers check_sense pick
 to_ten head = refl
 
@@ -126,7 +126,7 @@ five_bits : (head : ℕ) → head < 18 → reached_head (check_sense (protected_
 unfolding reached_head check_sense
 five_bits head h = omega (arith, h)
 
-track_is : (a : Address) (head : ℕ) → head < 18 → reached_track (check_sense (protected_step head)) a ≡ some (record { cylinder = a.cylinder; head = head })
+track_is : (a : Address) (head : ℕ) → head < 18 → reached_track (check_sense (protected_step head)) a ≡ Some (record { cylinder = a.cylinder; head = head })
 unfolding reached_track pick
 track_is a head h = rw (five_bits head h, le-leb head 18 (omega (arith, h)))
 
@@ -135,8 +135,8 @@ unfolding next_track pick
 next_is cylinder head h = rw (ne_eqb head 18 (λ z. omega (arith, h, z)))
 
 -- the interrupted CCW of a CSW that shows the CCW at a place of the chain
-interrupted_is : (g : Given) (r : Report) (st : List ℕ) (place : ℕ) (c : Ccw) → r.csw.address ≡ place + 8 → fetch_in g.chain place ≡ some c → is_tic c ≡ false
-    → interrupted g r st ≡ some c
+interrupted_is : (g : Given) (r : Report) (st : List ℕ) (place : ℕ) (c : Ccw) → r.csw.address ≡ place + 8 → fetch_in g.chain place ≡ Some c → is_tic c ≡ false
+    → interrupted g r st ≡ Some c
 unfolding interrupted opt pick
 interrupted_is g r st place c shown there plain =
     let back : place + 8 - 8 ≡ place = omega arith in
@@ -160,7 +160,7 @@ goes_on_behind g fs w s e r a st table chain p reports user cylinder =
 -- ---- the other actions
 
 -- action 10 at an interrupted seek
-module _ (g : Given) (r : Report) (st : List ℕ) (c : Ccw) (there : interrupted g r st ≡ some c) (seek : is_seek (command_of c.command) ≡ true) where
+module _ (g : Given) (r : Report) (st : List ℕ) (c : Ccw) (there : interrupted g r st ≡ Some c) (seek : is_seek (command_of c.command) ≡ true) where
   at_track : (a : Address)
       → opt (interrupted g r st) (Recovery.refused Question.Agreement) (λ d. pick (is_seek (command_of d.command)) (Recovery.seek_restart g r st a d) (Recovery.reached_restart g r st a))
       ≡ Recovery.seek_restart g r st a c

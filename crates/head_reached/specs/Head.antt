@@ -5,8 +5,7 @@
 --   Reports         a report of this end
 --   GoesOnBehind    recovery from it seeks the track behind the head reached
 --   EightTenStay    actions 8 and 10 are the same whatever sense byte 6 holds
-use Rattle.std.specs.Prelude.{ℕ, ◌≡◌, true, List, [], set}
-use Rattle.std.proofs.Math.Option.{some}
+use Rattle.std.specs.Prelude.{ℕ, ◌≡◌, true, List, [], set, Some, Ok}
 use Rattle.base.specs.Choice.{pick}
 use Rattle.address.specs.declared.Address.{Address}
 use Rattle.pack.specs.Pack.{Track}
@@ -14,7 +13,6 @@ use Rattle.faults.specs.Faults.{Fault}
 use Rattle.abstract_machine.specs.Machine.{ends}
 use Rattle.channel.specs.declared.Ccw.{Ccw}
 use Rattle.channel.specs.declared.Location.TheVariants.{Chain}
-use Rattle.channel.specs.declared.Fetched.TheVariants.{Got}
 use Rattle.channel.specs.Ccw.{resolve}
 use Rattle.drive.specs.declared.Read.{Read}
 use Rattle.drive.specs.declared.Command.{Command}
@@ -37,7 +35,7 @@ pub record ProtectedEnd (fs : List Fault) (w : Setting) (s : State) (e : End) : 
   pub place : ℕ
   pub ccw : Ccw
   pub head : ℕ
-  pub comes : resolve w.lent s.last s.at ≡ Got (Chain place) ccw
+  pub comes : resolve w.lent s.last s.at ≡ Ok (Chain place, ccw)
   pub meets : MeetsMask w.pack s.drive head (command_of ccw.command)
   pub ends_it : step fs w s ≡ ends e
   -- the command makes no program check and is not rejected
@@ -63,7 +61,7 @@ abbrev pub GoesOnBehind : Type 0
 GoesOnBehind =
     (g : Given) (fs : List Fault) (w : Setting) (s : State) (e : End) (r : Report) (a : Address) (st : List ℕ)
     → g.rows ≡ rows → g.chain ≡ w.lent.chain → (p : ProtectedEnd fs w s e) → Reports r e
-    → user_track g.last r.seek ≡ some a → a.cylinder ≡ s.drive.at.cylinder
+    → user_track g.last r.seek ≡ Some a → a.cylinder ≡ s.drive.at.cylinder
     → (p.head ≡ s.drive.at.head) × (recover g r st ≡ restart_at g s.drive (next_head s.drive).at p.place st)
 
 -- ---- the other actions
@@ -75,7 +73,7 @@ with_six r b = record { sense = set r.sense 6 b; csw = r.csw; first = r.first; m
 -- "Actions 8 and 10 stay.": action 8, and action 10 at an interrupted seek, answer the same with any sense byte 6.
 pub record Stay (g : Given) (r : Report) (st : List ℕ) (b : ℕ) : Type 0 where
   pub eight : action_eight g (with_six r b) st ≡ action_eight g r st
-  pub ten : (c : Ccw) → interrupted g r st ≡ some c → is_seek (command_of c.command) ≡ true → action_ten g (with_six r b) st ≡ action_ten g r st
+  pub ten : (c : Ccw) → interrupted g r st ≡ Some c → is_seek (command_of c.command) ≡ true → action_ten g (with_six r b) st ≡ action_ten g r st
 
 -- of every report
 abbrev pub EightTenStay : Type 0

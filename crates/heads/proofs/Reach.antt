@@ -6,11 +6,11 @@
 --   read_off, read_here, read_fails, read_on   a read, with one turn more left than m
 --   take_just, take_on                         a read, by what was just passed
 --   failed                                     what is not reached fails by a check
+use Rattle.std.specs.Prelude.{Some, None}
 use Prim.Native.Nat.{ℕ, suc, ◌+◌, ◌-◌, ◌<◌, ◌≤◌}
 use native.Mathlib.Omega.{arith}
 use mathlib.Core.Path.{◌≡◌, refl, ap}
 use mathlib.Core.Bool.{Bool, true, false, ◌&&◌}
-use mathlib.Core.Option.{none, some}
 use mathlib.Core.List.{List, [], ◌∷◌}
 use mathlib.Core.Logic.{inl, inr}
 use lib.Dec.{ltb}
@@ -21,7 +21,6 @@ use borrow.Author.Tests.{lt-ltb, le-ltb, ltb-true, eq-eqb, ne_eqb}
 use Rattle.base.specs.Choice.{pick, opt}
 use Rattle.base.proofs.Choice.{split}
 use Rattle.pack.specs.declared.Place.{Place}
-use Rattle.pack.specs.declared.RecordAt.TheVariants.{Located, NoRecord}
 use Rattle.pack.specs.Pack.{Track, track_in}
 use Rattle.pack.specs.Places.{record_at, Within}
 use Rattle.drive.specs.Drive as Abstract
@@ -65,11 +64,11 @@ module _ (x : Abstract.Drive) where
 -- ---- a search
 
 module _ (pack : List Track) (x : Abstract.Drive) where
-  pub search_off : track_in pack x.at ≡ none → Step.fails Step.not_found ≡ Step.search_from pack x
+  pub search_off : track_in pack x.at ≡ None → Step.fails Step.not_found ≡ Step.search_from pack x
   unfolding Step.search_from opt
   search_off h = rw h
 
-  module _ (t : Track) (h : track_in pack x.at ≡ some t) where
+  module _ (t : Track) (h : track_in pack x.at ≡ Some t) where
     pub search_here : x.next < length t.records → Step.reaches x ≡ Step.search_from pack x
     unfolding Step.search_from passes_index opt pick
     search_here i = rw (h, lt-ltb _ _ i)
@@ -86,14 +85,14 @@ module _ (image : List ℕ) (d : Drive) where
   past_later n = λ t o. rw (ne_eqb _ _ n) (o.ahead, o.near)
 
   module _ (e : d.next ≡ 0) where
-    pub past_first : (zero : Place) → record_at image d.here ≡ Located zero → Within image zero → PastZero image d zero.next
+    pub past_first : (zero : Place) → record_at image d.here ≡ Some zero → Within image zero → PastZero image d zero.next
     unfolding past_zero pick
     past_first zero h w = λ t o.
         let x = spotted image t d.next d.here o.ahead zero o.near h w in
         let p : past_zero d.next ≡ d.next + 1 = rw (eq-eqb _ _ e) (omega arith) in
         rw p (x.ahead, omega (arith, x.near, x.far))
 
-    pub past_lost : Sound image → record_at image d.here ≡ NoRecord → PastZero image d d.here
+    pub past_lost : Sound image → record_at image d.here ≡ None → PastZero image d d.here
     past_lost s h = λ t o.
         let a = ended image t d.next d.here o.ahead h in
         let b = begun s d.at t o.there in
@@ -102,11 +101,11 @@ module _ (image : List ℕ) (d : Drive) where
 -- ---- a read
 
 module _ (pack : List Track) (m : ℕ) (x : Abstract.Drive) where
-  pub read_off : track_in pack x.at ≡ none → Step.fails Step.not_found ≡ Step.read_from pack (suc m) x
+  pub read_off : track_in pack x.at ≡ None → Step.fails Step.not_found ≡ Step.read_from pack (suc m) x
   unfolding Step.read_from opt
   read_off h = rw h
 
-  module _ (t : Track) (h : track_in pack x.at ≡ some t) where
+  module _ (t : Track) (h : track_in pack x.at ≡ Some t) where
     pub read_here : past_zero x.next < length t.records → Step.reaches x ≡ Step.read_from pack (suc m) x
     unfolding Step.read_from passes_index opt pick
     read_here i = rw (h, lt-ltb _ _ i)

@@ -10,8 +10,6 @@ ghost use Rattle.heads.specs.Reached.{reached_of, ReachedStands};
 ghost use Rattle.heads.specs.Heads.{track_at, TrackEnds, PastZero};
 
 use address::Address;
-use drive::FileMask;
-use pack::{HomeAt, RecordAt, TrackAt};
 use position::Drive;
 
 // What is searched or read is reached with a drive, or a unit check ends the command on the way there. Of a protected step the drive before it is
@@ -25,14 +23,14 @@ pub enum Reached {
 }
 
 // Whether the mask forbids steps to the next head: bits 3 and 4 together.
-fn protects_step(mask: FileMask) -> bool
+fn protects_step(mask: Option<u8>) -> bool
     ensures { result ≡ Step.protects_step mask }
 {
     match mask {
-        FileMask::Unset => {
+        None => {
             return false;
         }
-        FileMask::Set(m) => {
+        Some(m) => {
             if !base::bit(m, 3) {
                 return false;
             }
@@ -42,16 +40,14 @@ fn protects_step(mask: FileMask) -> bool
 }
 
 // The records of a track, if its home address stands at a place.
-fn track_at(image: &[u8], at: usize, a: Address) -> TrackAt
+fn track_at(image: &[u8], at: usize, a: Address) -> Option<usize>
     ensures { result ≡ track_at image.now at a }
 {
-    let HomeAt::Home { at: b, next } = pack::home_at(image, at) else {
-        return TrackAt::NoTrack;
-    };
-    if !b.same(a) {
-        return TrackAt::NoTrack;
+    let home = pack::home_at(image, at)?;
+    if home.at != a {
+        return None;
     }
-    TrackAt::Records(next)
+    Some(home.next)
 }
 
 // At the index of the next head, from where the track ends.
@@ -63,12 +59,11 @@ fn next_index(d: Drive, image: &[u8], end: usize) -> Drive
     ensures stands { Standing image.now result }
 {
     let at = d.at;
-    let mask = d.mask;
     let a = Address {
         cylinder: at.cylinder,
         head: at.head + 1,
     };
-    Drive::at_found(image, a, track_at(image, end, a), mask)
+    Drive::at_found(image, a, track_at(image, end, a), d.mask)
 }
 
 // A step to the next head, from where the track ends. Past head 18 the mask does not matter.
@@ -78,10 +73,8 @@ fn next_head(d: Drive, image: &[u8], end: usize) -> Reached
     ensures value { reached_of result ≡ Step.stepped (drive_of d) }
     ensures reached_stands { ReachedStands image.now result }
 {
-    let at = d.at;
-    let mask = d.mask;
-    let last = 18 <= at.head;
-    let barred = protects_step(mask);
+    let last = 18 <= d.at.head;
+    let barred = protects_step(d.mask);
     if last {
         return Reached::EndOfCylinder;
     }
@@ -102,8 +95,8 @@ pub fn reach_search(d: Drive, image: &[u8]) -> Reached
     }
     let here = d.here;
     match pack::record_at(image, here) {
-        RecordAt::Located(_) => Reached::Reaches(d),
-        RecordAt::NoRecord => next_head(d, image, here),
+        Some(_) => Reached::Reaches(d),
+        None => next_head(d, image, here),
     }
 }
 
@@ -116,7 +109,7 @@ fn past_zero(d: Drive, image: &[u8]) -> usize
     if d.next != 0 {
         return here;
     }
-    let RecordAt::Located(zero) = pack::record_at(image, here) else {
+    let Some(zero) = pack::record_at(image, here) else {
         return here;
     };
     zero.next
@@ -134,7 +127,7 @@ fn read_on(d: Drive, image: &[u8]) -> Reached
             return Reached::NotFound;
         }
         let start = past_zero(e, image);
-        let RecordAt::NoRecord = pack::record_at(image, start) else {
+        let None = pack::record_at(image, start) else {
             return Reached::Reaches(e);
         };
         let r = next_head(e, image, start);

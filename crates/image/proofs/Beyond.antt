@@ -4,11 +4,11 @@
 --   look_behind          a later track is looked for among those alone
 --   next_head            the next head of a cylinder
 --   next_none, next_is   its track is the first of those behind, or there is none
+use Rattle.std.specs.Prelude.{Option, Some, None}
 use Prim.Native.Nat.{ℕ, ◌+◌, ◌<◌}
 use native.Mathlib.Omega.{arith}
 use mathlib.Core.Path.{◌≡◌, refl, ◌∙◌}
 use mathlib.Core.Bool.{true, false, ◌&&◌}
-use mathlib.Core.Option.{none, some}
 use mathlib.Core.List.{List, [], ◌∷◌, ◌++◌}
 use lib.Dec.{eqb, ltb}
 use borrow.Author.Tests.{eqb-true, ltb-true}
@@ -17,8 +17,6 @@ use Rattle.base.proofs.Choice.{split, and_left, and_right}
 use Rattle.address.specs.declared.Address.{Address}
 use Rattle.address.specs.Order.{same, before}
 use Rattle.pack.specs.Pack.{Track, track_in}
-use Rattle.image.specs.declared.Previous.{Previous}
-use Rattle.image.specs.declared.Previous.TheVariants.{Behind}
 use Rattle.image.specs.Image.{sound_track, follows, sound_tracks}
 
 -- ---- the order of tracks
@@ -68,51 +66,51 @@ second_other a b c (lower_head d h) (lower_head e k) = other c (next_head a) (λ
 -- ---- sound tracks
 
 module _ (last : ℕ) where
-  sound_first : (p : Previous) (u : Track) (us : List Track) → sound_tracks last p (u ∷ us) ≡ true → (follows p u.at ≡ true) × (sound_tracks last (Behind u.at) us ≡ true)
+  sound_first : (p : Option Address) (u : Track) (us : List Track) → sound_tracks last p (u ∷ us) ≡ true → (follows p u.at ≡ true) × (sound_tracks last (Some u.at) us ≡ true)
   unfolding sound_tracks
   sound_first p u us h =
-      let l = and_left (follows p u.at && sound_track last u) (sound_tracks last (Behind u.at) us) h in
+      let l = and_left (follows p u.at && sound_track last u) (sound_tracks last (Some u.at) us) h in
       (and_left (follows p u.at) _ l, and_right (follows p u.at && sound_track last u) _ h)
 
-  sound_later : (a : Address) (u : Track) (us : List Track) → sound_tracks last (Behind a) (u ∷ us) ≡ true → Earlier a u.at
+  sound_later : (a : Address) (u : Track) (us : List Track) → sound_tracks last (Some a) (u ∷ us) ≡ true → Earlier a u.at
   unfolding follows
-  sound_later a u us h = before_is a u.at (sound_first (Behind a) u us h).0
+  sound_later a u us h = before_is a u.at (sound_first (Some a) u us h).0
 
-  all_later : (a : Address) (front : List Track) (t : Track) (rest : List Track) → sound_tracks last (Behind a) (front ++ t ∷ rest) ≡ true → Earlier a t.at
+  all_later : (a : Address) (front : List Track) (t : Track) (rest : List Track) → sound_tracks last (Some a) (front ++ t ∷ rest) ≡ true → Earlier a t.at
   all_later a [] t rest h = sound_later a t rest h
   all_later a (u ∷ front) t rest h =
-      earlier_still (sound_later a u (front ++ t ∷ rest) h) (all_later u.at front t rest (sound_first (Behind a) u (front ++ t ∷ rest) h).1)
+      earlier_still (sound_later a u (front ++ t ∷ rest) h) (all_later u.at front t rest (sound_first (Some a) u (front ++ t ∷ rest) h).1)
 
-  pub sound_behind : (p : Previous) (front : List Track) (t : Track) (rest : List Track) → sound_tracks last p (front ++ t ∷ rest) ≡ true → sound_tracks last (Behind t.at) rest ≡ true
+  pub sound_behind : (p : Option Address) (front : List Track) (t : Track) (rest : List Track) → sound_tracks last p (front ++ t ∷ rest) ≡ true → sound_tracks last (Some t.at) rest ≡ true
   sound_behind p [] t rest h = (sound_first p t rest h).1
-  sound_behind p (u ∷ front) t rest h = sound_behind (Behind u.at) front t rest (sound_first p u (front ++ t ∷ rest) h).1
+  sound_behind p (u ∷ front) t rest h = sound_behind (Some u.at) front t rest (sound_first p u (front ++ t ∷ rest) h).1
 
-  pub look_behind : (p : Previous) (front : List Track) (t : Track) (rest : List Track) → sound_tracks last p (front ++ t ∷ rest) ≡ true
+  pub look_behind : (p : Option Address) (front : List Track) (t : Track) (rest : List Track) → sound_tracks last p (front ++ t ∷ rest) ≡ true
       → (a : Address) → Earlier t.at a → track_in (front ++ t ∷ rest) a ≡ track_in rest a
   unfolding track_in pick
   look_behind p [] t rest h a k = rw (earlier_other t.at a k)
   look_behind p (u ∷ front) t rest h a k =
       let f = (sound_first p u (front ++ t ∷ rest) h).1 in
-      rw (earlier_other u.at a (earlier_still (all_later u.at front t rest f) k)) (look_behind (Behind u.at) front t rest f a k)
+      rw (earlier_other u.at a (earlier_still (all_later u.at front t rest f) k)) (look_behind (Some u.at) front t rest f a k)
 
   -- behind a later track there is no next head
-  next_passed : (a b : Address) (ts : List Track) → Earlier a b → sound_tracks last (Behind b) ts ≡ true → track_in ts (next_head a) ≡ none
+  next_passed : (a b : Address) (ts : List Track) → Earlier a b → sound_tracks last (Some b) ts ≡ true → track_in ts (next_head a) ≡ None
   unfolding track_in pick
   next_passed a b [] k h = refl
   next_passed a b (u ∷ us) k h =
       let l = sound_later b u us h in
-      rw (second_other a b u.at k l) (next_passed a u.at us (earlier_still k l) (sound_first (Behind b) u us h).1)
+      rw (second_other a b u.at k l) (next_passed a u.at us (earlier_still k l) (sound_first (Some b) u us h).1)
 
-  module _ (p : Previous) (front : List Track) (t : Track) where
-    pub next_none : sound_tracks last p (front ++ t ∷ []) ≡ true → track_in (front ++ t ∷ []) (next_head t.at) ≡ none
+  module _ (p : Option Address) (front : List Track) (t : Track) where
+    pub next_none : sound_tracks last p (front ++ t ∷ []) ≡ true → track_in (front ++ t ∷ []) (next_head t.at) ≡ None
     unfolding track_in
     next_none h = look_behind p front t [] h (next_head t.at) (next_later t.at)
 
     pub next_is : (u : Track) (us : List Track) → sound_tracks last p (front ++ t ∷ u ∷ us) ≡ true
-        → track_in (front ++ t ∷ u ∷ us) (next_head t.at) ≡ pick (same u.at (next_head t.at)) (some u) none
+        → track_in (front ++ t ∷ u ∷ us) (next_head t.at) ≡ pick (same u.at (next_head t.at)) (Some u) None
     unfolding track_in pick
     next_is u us h =
         let b = sound_behind p front t (u ∷ us) h in
         look_behind p front t (u ∷ us) h (next_head t.at) (next_later t.at)
         ∙ split (same u.at (next_head t.at)) (λ q. rw q)
-        (λ q. rw q (next_passed t.at u.at us (sound_later t.at u us b) (sound_first (Behind t.at) u us b).1))
+        (λ q. rw q (next_passed t.at u.at us (sound_later t.at u us b) (sound_first (Some t.at) u us b).1))

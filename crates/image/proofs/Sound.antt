@@ -6,11 +6,11 @@
 --   record_apart              no two of its records have the same number
 --   number_finds              its numbers find its records
 --   records_few               it has at most 256 records
+use Rattle.std.specs.Prelude.{Option, Some, None}
 use Prim.Native.Nat.{ℕ, zero, suc, ◌+◌, ◌<◌, ◌≤◌}
 use native.Mathlib.Omega.{arith}
 use mathlib.Core.Path.{◌≡◌, refl, sym, ◌∙◌}
 use mathlib.Core.Bool.{true, false, ◌&&◌, not}
-use mathlib.Core.Option.{some}
 use mathlib.Core.List.{List, [], ◌∷◌, map}
 use lib.Dec.{eqb, leb}
 use lib.ListN.{length, get_or, length-map}
@@ -20,8 +20,6 @@ use Rattle.base.proofs.Choice.{split, and_left, and_right}
 use Rattle.address.specs.declared.Address.{Address}
 use Rattle.address.specs.Order.{same}
 use Rattle.pack.specs.Pack.{Record, Track, pack_of, track_in, numbered}
-use Rattle.image.specs.declared.Previous.{Previous}
-use Rattle.image.specs.declared.Previous.TheVariants.{Nothing, Behind}
 use Rattle.image.specs.Image.{sound_record, member, sound_records, sound_track, follows, sound_tracks, no_records, well_formed_from, well_formed}
 use Rattle.image.proofs.Pass.{decodes}
 use Rattle.image.proofs.Pigeons.{Without, Apart, Below, few}
@@ -35,29 +33,29 @@ same_address a b h =
 
 -- ---- tracks
 
-tracks_sound : (last : ℕ) (b : Previous) (ts : List Track) (a : Address) (t : Track) → sound_tracks last b ts ≡ true → track_in ts a ≡ some t
+tracks_sound : (last : ℕ) (b : Option Address) (ts : List Track) (a : Address) (t : Track) → sound_tracks last b ts ≡ true → track_in ts a ≡ Some t
     → (sound_track last t ≡ true) × (t.at ≡ a)
 unfolding sound_tracks track_in pick
 tracks_sound last b [] a t h e = let z : ◌≡◌ {A = ℕ} 0 1 = cc in absurd (omega arith)
 tracks_sound last b (u ∷ ts) a t h e =
-    let s = and_left (follows b u.at && sound_track last u) (sound_tracks last (Behind u.at) ts) h in
-    let r = and_right (follows b u.at && sound_track last u) (sound_tracks last (Behind u.at) ts) h in
+    let s = and_left (follows b u.at && sound_track last u) (sound_tracks last (Some u.at) ts) h in
+    let r = and_right (follows b u.at && sound_track last u) (sound_tracks last (Some u.at) ts) h in
     split (same u.at a)
     (λ q.
-    let v : some u ≡ some t = rw q at e in
+    let v : Some u ≡ Some t = rw q at e in
     let w : u ≡ t = cc in
     rw (← w) (and_right (follows b u.at) (sound_track last u) s, same_address u.at a q))
-    (λ q. tracks_sound last (Behind u.at) ts a t r (rw q at e))
+    (λ q. tracks_sound last (Some u.at) ts a t r (rw q at e))
 
-pub pack_sound : (last : ℕ) (s : List ℕ) → well_formed last s ≡ true → sound_tracks last Nothing (pack_of s) ≡ true
+pub pack_sound : (last : ℕ) (s : List ℕ) → well_formed last s ≡ true → sound_tracks last None (pack_of s) ≡ true
 unfolding pack_of opt well_formed well_formed_from
 pack_sound last s h =
     let d = decodes last s h in
-    let w : (no_records d.0.records && sound_tracks last Nothing d.0.tracks) ≡ true = rw d.1 at h in
+    let w : (no_records d.0.records && sound_tracks last None d.0.tracks) ≡ true = rw d.1 at h in
     rw d.1 (and_right (no_records d.0.records) _ w)
 
-pub track_sound : (last : ℕ) (s : List ℕ) (a : Address) (t : Track) → well_formed last s ≡ true → track_in (pack_of s) a ≡ some t → (sound_track last t ≡ true) × (t.at ≡ a)
-track_sound last s a t h e = tracks_sound last Nothing (pack_of s) a t (pack_sound last s h) e
+pub track_sound : (last : ℕ) (s : List ℕ) (a : Address) (t : Track) → well_formed last s ≡ true → track_in (pack_of s) a ≡ Some t → (sound_track last t ≡ true) × (t.at ≡ a)
+track_sound last s a t h e = tracks_sound last None (pack_of s) a t (pack_sound last s h) e
 
 -- ---- the records of a track
 
@@ -135,12 +133,12 @@ apart_at (x ∷ xs) w (suc i) (suc j) z h k = apart_at xs w.1 i j z (omega arith
 pub record_apart : (a : Address) (xs : List Record) → sound_records a [] xs ≡ true → (i j : ℕ) (z : Record) → j < i → i < length xs → (get_or xs i z).r ≡ (get_or xs j z).r → ⊥
 record_apart a xs h i j z = apart_at xs (apart a [] xs h) i j z
 
-numbered_at : (xs : List Record) → Apart (map (λ (x : Record). x.r) xs) → (i : ℕ) (z : Record) → i < length xs → numbered xs (get_or xs i z).r ≡ some (get_or xs i z)
+numbered_at : (xs : List Record) → Apart (map (λ (x : Record). x.r) xs) → (i : ℕ) (z : Record) → i < length xs → numbered xs (get_or xs i z).r ≡ Some (get_or xs i z)
 unfolding numbered pick
 numbered_at [] w i z k = absurd (omega arith)
 numbered_at (x ∷ xs) w zero z k = rw (eq-eqb x.r x.r refl)
 numbered_at (x ∷ xs) w (suc i) z k =
     rw (ne_eqb x.r (get_or xs i z).r (λ e. without_at x.r xs w.0 i z (omega arith) (sym e))) (numbered_at xs w.1 i z (omega arith))
 
-pub number_finds : (a : Address) (xs : List Record) → sound_records a [] xs ≡ true → (i : ℕ) (z : Record) → i < length xs → numbered xs (get_or xs i z).r ≡ some (get_or xs i z)
+pub number_finds : (a : Address) (xs : List Record) → sound_records a [] xs ≡ true → (i : ℕ) (z : Record) → i < length xs → numbered xs (get_or xs i z).r ≡ Some (get_or xs i z)
 number_finds a xs h i z k = numbered_at xs (apart a [] xs h) i z k

@@ -1,18 +1,14 @@
 -- Question 2: "Is the image well formed?" (document 01, "Tagged fields", "Image"), and the image check's answer.
 -- The last cylinder is a parameter.
-use Rattle.std.specs.Prelude.{ℕ, ◌+◌, Bool, true, false, ◌&&◌, not, List, [], ◌∷◌, eqb, leb, length}
+use Rattle.std.specs.Prelude.{ℕ, ◌+◌, Bool, true, false, ◌&&◌, not, List, [], ◌∷◌, eqb, leb, length, Option, Some, None, Result, Ok, Err}
 use Rattle.base.specs.Choice.{pick, opt}
-use Rattle.questions.specs.declared.Question.TheVariants as Question
-use Rattle.questions.specs.declared.Checked.{Checked}
-use Rattle.questions.specs.declared.Checked.TheVariants.{Accepted, Refused}
 use Rattle.questions.specs.Areas.{image_fits}
 use Rattle.address.specs.declared.Address.{Address}
 use Rattle.address.specs.declared.Model.{Model}
 use Rattle.address.specs.Model.{last_of}
 use Rattle.address.specs.Order.{same, before, on_pack}
 use Rattle.pack.specs.Pack.{Record, Track, decode_at}
-use Rattle.image.specs.declared.Previous.{Previous}
-use Rattle.image.specs.declared.Previous.TheVariants.{Nothing, Behind}
+use Rattle.questions.specs.declared.Question.{Question}
 
 -- ---- one record
 
@@ -46,14 +42,14 @@ unfoldable pub sound_track : ℕ → Track → Bool
 sound_track last t = on_pack last t.at && zero_first t.records && sound_records t.at [] t.records
 
 -- whether a track may follow the one before it
-unfoldable pub follows : Previous → Address → Bool
-follows Nothing a = true
-follows (Behind b) a = before b a
+unfoldable pub follows : Option Address → Address → Bool
+follows None a = true
+follows (Some b) a = before b a
 
 -- "Tracks strictly ascending", each on the pack. "No tracks is allowed."
-unfoldable pub sound_tracks : ℕ → Previous → List Track → Bool
+unfoldable pub sound_tracks : ℕ → Option Address → List Track → Bool
 sound_tracks last b [] = true
-sound_tracks last b (t ∷ ts) = follows b t.at && sound_track last t && sound_tracks last (Behind t.at) ts
+sound_tracks last b (t ∷ ts) = follows b t.at && sound_track last t && sound_tracks last (Some t.at) ts
 
 -- ---- the image
 
@@ -63,13 +59,13 @@ no_records [] = true
 no_records (x ∷ xs) = false
 
 -- Whether the bytes from a place on are sound tracks behind b, with no record before the first home address.
-unfoldable pub well_formed_from : ℕ → Previous → List ℕ → ℕ → Bool
+unfoldable pub well_formed_from : ℕ → Option Address → List ℕ → ℕ → Bool
 well_formed_from last b s at = opt (decode_at s at) false (λ d. no_records d.records && sound_tracks last b d.tracks)
 
 -- "Is the image well formed?"
 unfoldable pub well_formed : ℕ → List ℕ → Bool
-well_formed last s = well_formed_from last Nothing s 0
+well_formed last s = well_formed_from last None s 0
 
 -- Questions 1 and 2, for an image alone.
-unfoldable pub image_answer : Model → List ℕ → Checked
-image_answer m s = pick (image_fits (length s)) (pick (well_formed (last_of m) s) Accepted (Refused Question.Image)) (Refused Question.Areas)
+unfoldable pub image_answer : Model → List ℕ → Result Unit Question
+image_answer m s = pick (image_fits (length s)) (pick (well_formed (last_of m) s) (Ok tt) (Err Question.Image)) (Err Question.Areas)

@@ -7,22 +7,16 @@ ghost use Rattle.image.specs.Image.{follows, well_formed, image_answer};
 ghost use Rattle.image.specs.Pass.{fits_in, RecordsTell, TrackTells};
 
 use address::{Address, Model};
-use pack::{HomeAt, Place, RecordAt};
-use questions::{Checked, Question};
+use pack::Place;
+use questions::Question;
 
-// The track before the one that is looked at, if there is one.
-#[derive(Clone, Copy)]
-pub enum Previous {
-    Nothing,
-    Behind(Address),
-}
-
-fn may_follow(b: Previous, a: Address) -> bool
+// Whether a track may stand behind another one, if there is one before it.
+fn may_follow(b: Option<Address>, a: Address) -> bool
     ensures { result ≡ follows b a }
 {
     match b {
-        Previous::Nothing => true,
-        Previous::Behind(c) => c.before(a),
+        None => true,
+        Some(c) => c < a,
     }
 }
 
@@ -31,22 +25,14 @@ fn fits(p: Place, a: Address) -> bool
     requires { p.key ≤ p.next }
     ensures { result ≡ fits_in a p }
 {
-    let at = p.at;
-    if !at.same(a) {
+    if p.at != a {
         return false;
     }
     p.next - p.key <= 13030
 }
 
-// Where the records of a track end, or that one of them is unsound.
-#[derive(Clone, Copy)]
-pub enum RecordsEnd {
-    Upto(usize),
-    Unsound,
-}
-
-// The records of a track behind R0. An entry of `seen` is 1 where its R was met.
-fn records_end(image: &[u8], at: usize, a: Address) -> RecordsEnd
+// Where the records of a track behind R0 end, if they are sound. An entry of `seen` is 1 where its R was met.
+fn records_end(image: &[u8], at: usize, a: Address) -> Option<usize>
     requires { at ≤ length image.now }
     ensures { RecordsTell image.now at a result }
 {
@@ -54,56 +40,49 @@ fn records_end(image: &[u8], at: usize, a: Address) -> RecordsEnd
     seen[0] = 1;
     let mut here = at;
     loop {
-        let RecordAt::Located(p) = pack::record_at(image, here) else {
-            return RecordsEnd::Upto(here);
+        let Some(p) = pack::record_at(image, here) else {
+            return Some(here);
         };
         if !fits(p, a) {
-            return RecordsEnd::Unsound;
+            return None;
         }
-        let r = p.r;
-        if seen[r] == 1 {
-            return RecordsEnd::Unsound;
+        if seen[p.r] == 1 {
+            return None;
         }
-        seen[r] = 1;
-        let next = p.next;
-        here = next;
+        seen[p.r] = 1;
+        here = p.next;
     }
 }
 
-// A track's address and where it ends, or that it is unsound.
+// A track's address, and where it ends.
 #[derive(Clone, Copy)]
-pub enum TrackEnd {
-    Track { at: Address, next: usize },
-    Faulty,
+pub struct TrackEnd {
+    pub at: Address,
+    pub next: usize,
 }
 
-// The track at a place, behind another one.
-fn track_end(m: Model, image: &[u8], at: usize, b: Previous) -> TrackEnd
+// The track at a place, behind another one, if it is sound.
+fn track_end(m: Model, image: &[u8], at: usize, b: Option<Address>) -> Option<TrackEnd>
     requires { at < length image.now }
     ensures { TrackTells (last_of m) b image.now at result }
 {
-    let HomeAt::Home { at: a, next } = pack::home_at(image, at) else {
-        return TrackEnd::Faulty;
-    };
+    let home = pack::home_at(image, at)?;
+    let a = home.at;
     if !may_follow(b, a) {
-        return TrackEnd::Faulty;
+        return None;
     }
     if !a.on_pack(m) {
-        return TrackEnd::Faulty;
+        return None;
     }
-    let RecordAt::Located(p) = pack::record_at(image, next) else {
-        return TrackEnd::Faulty;
-    };
-    if p.r != 0 {
-        return TrackEnd::Faulty;
+    let zero = pack::record_at(image, home.next)?;
+    if zero.r != 0 {
+        return None;
     }
-    if !fits(p, a) {
-        return TrackEnd::Faulty;
+    if !fits(zero, a) {
+        return None;
     }
-    let RecordsEnd::Upto(end) = records_end(image, p.next, a) else {
-        return TrackEnd::Faulty;
-    };
-    TrackEnd::Track { at: a, next: end }
+    let next = records_end(image, zero.next, a)?;
+    Some(TrackEnd { at: a, next })
 }
 
 // Whether an image is well formed, of a pack of this model.
@@ -111,26 +90,26 @@ pub fn well_formed(m: Model, image: &[u8]) -> bool
     ensures { result ≡ well_formed (last_of m) image.now }
 {
     let mut here = 0;
-    let mut b = Previous::Nothing;
+    let mut b = None;
     while here < image.len() {
-        let TrackEnd::Track { at, next } = track_end(m, image, here, b) else {
+        let Some(track) = track_end(m, image, here, b) else {
             return false;
         };
-        b = Previous::Behind(at);
-        here = next;
+        b = Some(track.at);
+        here = track.next;
     }
     true
 }
 
 // Questions 1 and 2 for an image of any size.
-pub fn check_image(m: Model, image: &[u8]) -> Checked
+pub fn check_image(m: Model, image: &[u8]) -> Result<(), Question>
     ensures { result ≡ image_answer m image.now }
 {
     if !questions::image_fits(image.len()) {
-        return Checked::Refused(Question::Areas);
+        return Err(Question::Areas);
     }
     if well_formed(m, image) {
-        return Checked::Accepted;
+        return Ok(());
     }
-    Checked::Refused(Question::Image)
+    Err(Question::Image)
 }

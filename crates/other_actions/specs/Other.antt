@@ -4,8 +4,7 @@
 --   GivesOther                   the row of a report gives neither
 --   OthersStay                   then recovery answers as without them
 --   OverflowAlone                where the row gives one of them, it is built; without them number 7 refused it
-use Rattle.std.specs.Prelude.{ℕ, ◌≡◌, ◌≢◌, List, eqb}
-use Rattle.std.proofs.Math.Option.{some}
+use Rattle.std.specs.Prelude.{ℕ, ◌≡◌, ◌≢◌, List, eqb, Some}
 use Rattle.base.specs.Choice.{pick, opt}
 use Rattle.questions.specs.declared.Question.TheVariants as Question
 use Rattle.recovery.specs.Table.{Row, action_for}
@@ -31,7 +30,7 @@ module _ (g : Given) (r : Report) (st : List ℕ) where
 
 -- "report whose row gives another action"; or no row fits it
 abbrev pub GivesOther : List Row → Report → Type 0
-GivesOther rows r = (k : ℕ) → action_for rows r.sense ≡ some k → (k ≢ 9) × (k ≢ 11)
+GivesOther rows r = (k : ℕ) → action_for rows r.sense ≡ Some k → (k ≢ 9) × (k ≢ 11)
 
 -- "gets its old answer, proved over all reports"
 abbrev pub OthersStay : Type 0
@@ -40,7 +39,7 @@ OthersStay = (g : Given) (r : Report) (st : List ℕ) → GivesOther g.rows r �
 -- An action is what recovery answers where the row gives this code; without it number 7 refuses.
 abbrev pub Alone : ℕ → (Given → Report → List ℕ → Recovery) → Type 0
 Alone k action =
-    (g : Given) (r : Report) (st : List ℕ) → action_for g.rows r.sense ≡ some k
+    (g : Given) (r : Report) (st : List ℕ) → action_for g.rows r.sense ≡ Some k
     → (recover g r st ≡ action g r st) × (recover_without g r st ≡ refused Question.Action)
 
 -- of 9 and of 11

@@ -5,8 +5,7 @@
 --   ReportGivesOther      the row of the bytes of a report gives neither
 --   CallStays             what `recover::recover` answers and leaves then
 --   GiruveRecoverStays    what `giruve_recover` returns and leaves
-use Rattle.std.specs.Prelude.{ℕ, ◌≡◌, List, length}
-use Rattle.std.proofs.Math.Option.{some}
+use Rattle.std.specs.Prelude.{ℕ, ◌≡◌, List, length, Some}
 use Rattle.base.specs.Choice.{pick, opt}
 use Rattle.questions.specs.declared.Question.TheVariants as Question
 use Rattle.address.specs.declared.Model.{Model}
@@ -36,7 +35,7 @@ call_without_by model chain report extent st p a = opt (model_of model) (refusal
 
 -- bytes that are no report have no row
 abbrev pub ReportGivesOther : (report : List ℕ) → Type 0
-ReportGivesOther report = (r : Report) → report_from report ≡ some r → GivesOther rows r
+ReportGivesOther report = (r : Report) → report_from report ≡ Some r → GivesOther rows r
 
 -- of every call of `recover::recover`, whose contract equates what it answers and leaves with `recover_call`
 abbrev pub CallStays : Type 0

@@ -3,11 +3,11 @@
 --   Leads         one CCW of the chain comes next to both, if they chain data
 --   rest_goes     then the one walk goes on as the other
 --   stores_on     and storage behind them is the same
+use Rattle.std.specs.Prelude.{Option, Some, Ok}
 use Prim.Native.Nat.{ℕ, zero, suc, ◌+◌, ◌-◌, ◌≤◌, ◌<◌}
 use native.Mathlib.Omega.{arith}
 use mathlib.Core.Path.{◌≡◌, refl, ap, ◌∙◌}
 use mathlib.Core.Bool.{Bool, true, false}
-use mathlib.Core.Option.{Option, some}
 use mathlib.Core.List.{List, [], ◌∷◌, ◌++◌}
 use lib.Dec.{ltb}
 use lib.ListN.{length}
@@ -16,7 +16,6 @@ use Rattle.base.proofs.Choice.{split, both, choose_if, pick_false}
 use Rattle.channel.specs.declared.Ccw.{Ccw}
 use Rattle.channel.specs.declared.Location.{Location}
 use Rattle.channel.specs.declared.Location.TheVariants.{Chain, Restart}
-use Rattle.channel.specs.declared.Fetched.TheVariants.{Got}
 use Rattle.channel.specs.Ccw.{Lent, chains_data, skips, next, resolve}
 use Rattle.channel.specs.Store.{put, store}
 use Rattle.channel.specs.Walk.{Walk, walked, checked, place_under, chained, walk}
@@ -32,7 +31,7 @@ use Rattle.overflow_rest.proofs.Cut.{from}
 
 same_place : (c d : Ccw) (a b : ℕ) → skips c ≡ skips d → (skips d ≡ false → a ≡ b) → place_under c a ≡ place_under d b
 unfolding place_under
-same_place c d a b h k = rw h (choose_if (skips d) (λ e. refl) (λ e. ap some (k e)))
+same_place c d a b h k = rw h (choose_if (skips d) (λ e. refl) (λ e. ap Some (k e)))
 
 same_under : (c d : Ccw) (n a b : ℕ) → skips c ≡ skips d → (skips d ≡ false → a ≡ b) → places_under c a n ≡ places_under d b n
 unfolding places_under
@@ -67,8 +66,8 @@ module _ (chain arguments program restart_arguments : List ℕ) (l k : Location)
   pub record Leads : Type 0 where
     pub to : ℕ
     pub ccw : Ccw
-    pub by_tic : resolve (restart_lent chain arguments program restart_arguments) l (next l) ≡ Got (Chain to) ccw
-    pub by_chain : resolve (only_chain chain) k (next k) ≡ Got (Chain to) ccw
+    pub by_tic : resolve (restart_lent chain arguments program restart_arguments) l (next l) ≡ Ok (Chain to, ccw)
+    pub by_chain : resolve (only_chain chain) k (next k) ≡ Ok (Chain to, ccw)
 
   module _ (before : List (Option ℕ)) (size left : ℕ) where
     abbrev p : Lent
@@ -81,8 +80,8 @@ module _ (chain arguments program restart_arguments : List ℕ) (l k : Location)
     first = rest_ccw cut left
 
     chained_goes : (ps : List (Option ℕ)) (n a : ℕ) (c : Ccw)
-        → GoesOnAs before l first k cut (behind_places ps (chained (walk p size n) size (Got (Chain a) c)))
-        (behind_places before (behind_places ps (chained (walk q size n) size (Got (Chain a) c))))
+        → GoesOnAs before l first k cut (behind_places ps (chained (walk p size n) size (Ok (Chain a, c))))
+        (behind_places before (behind_places ps (chained (walk q size n) size (Ok (Chain a, c)))))
     unfolding only_chain chained
     chained_goes ps n a c =
         rw (walk_same q arguments program restart_arguments size n (Chain a) c c.count c.address tt)

@@ -4,12 +4,12 @@
 --   walk_splits   every walk from a CCW that a read may use, wherever in this CCW it begins
 --   Cut           what this tells of a walk that ended with count left
 --   cut_there     it does
+use Rattle.std.specs.Prelude.{Option, Result, Ok, Err}
 use Prim.Native.Nat.{ℕ, zero, suc, ◌+◌, ◌-◌, ◌≤◌, ◌<◌}
 use native.Mathlib.Nat.{suc-add, zero-add}
 use native.Mathlib.Omega.{arith}
 use mathlib.Core.Path.{◌≡◌, refl, ap}
 use mathlib.Core.Bool.{Bool, true, false, ◌&&◌}
-use mathlib.Core.Option.{Option}
 use mathlib.Core.List.{List, [], ◌∷◌}
 use lib.Dec.{eqb}
 use lib.ListN.{length}
@@ -17,8 +17,6 @@ use Rattle.base.specs.Choice.{pick}
 use Rattle.base.proofs.Choice.{split}
 use Rattle.channel.specs.declared.Ccw.{Ccw}
 use Rattle.channel.specs.declared.Location.{Location}
-use Rattle.channel.specs.declared.Fetched.{Fetched}
-use Rattle.channel.specs.declared.Fetched.TheVariants.{Got, Broken}
 use Rattle.channel.specs.Ccw.{Lent, chains_data, next, resolve}
 use Rattle.channel.specs.Walk.{Walk, walked, checked, behind_place, place_under, readable, chained, walk}
 use Rattle.channel.proofs.Stretch.{behind_places}
@@ -55,10 +53,10 @@ module _ (p : Lent) (size m : ℕ) where
       (l : Location) (c : Ccw) (left a : ℕ) → readable size c ≡ true → left ≤ c.count → a ≡ from c left
       → Splits n (walk p size (n + m) l c left a) (walk p size n l c left a)
 
-  chained_splits : (n : ℕ) (f : Fetched) → SplitsEach n → Splits n (chained (walk p size (n + m)) size f) (chained (walk p size n) size f)
+  chained_splits : (n : ℕ) (f : Result (Location × Ccw) Location) → SplitsEach n → Splits n (chained (walk p size (n + m)) size f) (chained (walk p size n) size f)
   unfolding chained pick
-  chained_splits n (Broken l) h = stopped
-  chained_splits n (Got l c) h =
+  chained_splits n (Err l) h = stopped
+  chained_splits n (Ok (l, c)) h =
       split (readable size c) (λ e. rw e (h l c c.count c.address e (omega arith) (omega arith))) (λ e. rw e stopped)
 
   pub walk_splits : (n : ℕ) → SplitsEach n

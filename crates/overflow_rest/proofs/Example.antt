@@ -3,11 +3,11 @@
 --   rest        its CCW 1 goes on where the read was cut
 --   uncut, resumed
 --               where seven bytes of the read go, and where CCW 1 puts the last four of them
+use Rattle.std.specs.Prelude.{Some, None}
 use Prim.Native.Nat.{ℕ}
 use native.Mathlib.Omega.{arith}
 use mathlib.Core.Path.{◌≡◌, refl}
 use mathlib.Core.Bool.{false}
-use mathlib.Core.Option.{some}
 use mathlib.Core.List.{List, [], ◌∷◌, ◌++◌}
 use lib.ListN.{replicate}
 use Rattle.base.specs.Choice.{pick, opt}
@@ -22,7 +22,6 @@ use Rattle.channel.specs.declared.Location.TheVariants.{Chain}
 use Rattle.channel.specs.Ccw as Ccw
 use Rattle.channel.specs.Walk as Walk
 use Rattle.channel.specs.Walk.{walked}
-use Rattle.drive.specs.declared.FileMask.TheVariants.{Unset}
 use Rattle.drive.specs.Command as Command
 use Rattle.drive.specs.Step as Step
 use Rattle.restart.specs.Restart as Program
@@ -50,8 +49,8 @@ report = record {
   sense = 0 ∷ 0 ∷ 0 ∷ 0x06 ∷ replicate 13 0 ++ 3 ∷ replicate 6 0;
   csw = record { address = 8; unit = 0x0e; channel = 0; count = 1 };
   first = 0;
-  mask = Unset;
-  seek = some (replicate 6 0);
+  mask = None;
+  seek = Some (replicate 6 0);
   tries = 0;
 }
 
@@ -63,7 +62,7 @@ program : List ℕ
 program = padded 64 (ccw_bytes 0x07 0x2000 0x40 6 ++ ccw_bytes 0x23 0x2007 0x40 1 ++ ccw_bytes 0x1a 0 0x50 5 ++ ccw_bytes 0x06 3 0x80 1 ++ tic_to 16)
 
 arguments : List ℕ
-arguments = restart_arguments_of (record { cylinder = 1; head = 0 }) Unset 0 []
+arguments = restart_arguments_of (record { cylinder = 1; head = 0 }) None 0 []
 
 restarted : Recovery.action_nine given report storage ≡ Recovery.restarts Recovery.nine program arguments storage
 unfolding chain given report storage program arguments pick opt two three bit_on before on_pack within ccw_bytes tic_to Ccw.ccw_at Ccw.chains_data Ccw.chains_command Ccw.skips Ccw.is_tic Ccw.formed Ccw.address_of Ccw.next Ccw.fetch_in Ccw.fetch Ccw.target Ccw.landed Ccw.follow Ccw.resolve Ccw.storage_inside Walk.behind_place Walk.place_under Walk.readable Walk.chained Walk.walk Command.codes Command.look_up Command.command_of Step.sought Program.mask_ccw Program.program_ending Program.rest_ccw Program.tic_ccw Program.overflow_program Recovery.only_chain Recovery.seek_allowed Recovery.on_next Recovery.reads_data Recovery.cut_inside Recovery.user_track Recovery.retrace Recovery.overflow_read Recovery.overflow_restart Recovery.from_interrupted Recovery.overflow_walk Recovery.overflow Recovery.overflow_at Recovery.action_nine
@@ -78,11 +77,11 @@ behind : Ccw
 behind = record { command = 0x00; address = 8; flags = 0; count = 6 }
 
 uncut : uncut_walk given report storage (record { command = 0x06; address = 0; flags = 0x80; count = 4 }) 7
-    ≡ walked (some 0 ∷ some 1 ∷ some 2 ∷ some 3 ∷ some 8 ∷ some 9 ∷ some 10 ∷ []) (Chain 16) behind 3 false
+    ≡ walked (Some 0 ∷ Some 1 ∷ Some 2 ∷ Some 3 ∷ Some 8 ∷ Some 9 ∷ Some 10 ∷ []) (Chain 16) behind 3 false
 unfolding chain given report storage behind pick two three bit_on ccw_bytes tic_to Ccw.ccw_at Ccw.chains_data Ccw.skips Ccw.is_tic Ccw.formed Ccw.next Ccw.fetch_in Ccw.fetch Ccw.target Ccw.landed Ccw.follow Ccw.resolve Ccw.storage_inside Walk.behind_place Walk.place_under Walk.readable Walk.chained Walk.walk Recovery.only_chain
 uncut = refl
 
 resumed : rest_walk (restart_lent chain [] program arguments) report storage (record { command = 0x06; address = 3; flags = 0x80; count = 1 }) 4
-    ≡ walked (some 3 ∷ some 8 ∷ some 9 ∷ some 10 ∷ []) (Chain 16) behind 3 false
+    ≡ walked (Some 3 ∷ Some 8 ∷ Some 9 ∷ Some 10 ∷ []) (Chain 16) behind 3 false
 unfolding chain report storage program behind pick two three bit_on ccw_bytes tic_to padded rest_place Ccw.ccw_at Ccw.chains_data Ccw.skips Ccw.is_tic Ccw.formed Ccw.next Ccw.fetch_in Ccw.fetch Ccw.target Ccw.landed Ccw.follow Ccw.resolve Ccw.storage_inside Walk.behind_place Walk.place_under Walk.readable Walk.chained Walk.walk
 resumed = refl

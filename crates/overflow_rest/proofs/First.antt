@@ -3,11 +3,11 @@
 --   lead_on         its last TIC leads to a CCW of the chain
 --   rest_readable   a read may use it
 --   judged_same     it makes incorrect length of the same as the interrupted CCW
+use Rattle.std.specs.Prelude.{Option, Some, None, Ok}
 use Prim.Native.Nat.{ℕ, ◌+◌, ◌-◌, ◌%◌, ◌≤◌, ◌<◌}
 use native.Mathlib.Omega.{arith}
 use mathlib.Core.Path.{◌≡◌, refl, ap}
 use mathlib.Core.Bool.{Bool, true, false, not}
-use mathlib.Core.Option.{some}
 use mathlib.Core.List.{List}
 use lib.Dec.{eqb}
 use borrow.Author.Tests.{lt-ltb, le-leb, ne_eqb}
@@ -17,15 +17,10 @@ use Rattle.base.proofs.Bytes.{two_back, three_back}
 use Rattle.base.proofs.Choice.{split, and_left, and_right}
 use Rattle.channel.specs.declared.Ccw.{Ccw}
 use Rattle.channel.specs.declared.Location.TheVariants.{Chain, Restart}
-use Rattle.channel.specs.declared.Fetched.TheVariants.{Got}
 use Rattle.channel.specs.Ccw as Ccw
 use Rattle.channel.specs.Ccw.{Lent, skips, is_tic, formed, storage_inside, next, fetch_in, fetch, resolve}
 use Rattle.channel.specs.Walk.{readable, incorrect_length}
 use Rattle.channel.proofs.Readable.{room}
-use Rattle.drive.specs.declared.FileMask.{FileMask}
-use Rattle.drive.specs.declared.FileMask.TheVariants.{Unset, Set}
-use Rattle.restart.specs.declared.LastTic.{LastTic}
-use Rattle.restart.specs.declared.LastTic.TheVariants.{To, Absent}
 use Rattle.restart.specs.Restart as Program
 use Rattle.restart.specs.Restart.{rest_ccw, overflow_program}
 use Rattle.overflow_rest.specs.Rest.{rest_place, restart_lent}
@@ -33,12 +28,12 @@ use Rattle.overflow_rest.specs.Rest.{rest_place, restart_lent}
 -- ---- its place
 
 -- in a program with a TIC behind it or without
-pub fetch_first : (c : Ccw) (m : FileMask) (last : LastTic) → fetch_in (overflow_program m c last) (rest_place m) ≡ some c
+pub fetch_first : (c : Ccw) (m : Option ℕ) (last : Option ℕ) → fetch_in (overflow_program m c last) (rest_place m) ≡ Some c
 unfolding pick two three rest_place Ccw.fetch_in Ccw.ccw_at Program.ccw_bytes Program.tic_to Program.padded Program.mask_ccw Program.program_ending Program.tic_ccw overflow_program
-fetch_first c Unset Absent = rw (three_back c.address, two_back c.count)
-fetch_first c Unset (To to) = rw (three_back c.address, two_back c.count)
-fetch_first c (Set b) Absent = rw (three_back c.address, two_back c.count)
-fetch_first c (Set b) (To to) = rw (three_back c.address, two_back c.count)
+fetch_first c None None = rw (three_back c.address, two_back c.count)
+fetch_first c None (Some to) = rw (three_back c.address, two_back c.count)
+fetch_first c (Some b) None = rw (three_back c.address, two_back c.count)
+fetch_first c (Some b) (Some to) = rw (three_back c.address, two_back c.count)
 
 -- the last TIC
 abbrev tic : ℕ → Ccw
@@ -49,16 +44,16 @@ unfolding is_tic
 is_tic_lem to = refl
 
 module _ (chain arguments restart_arguments : List ℕ) (c : Ccw) where
-  abbrev lent : FileMask → LastTic → Lent
+  abbrev lent : Option ℕ → Option ℕ → Lent
   lent m last = restart_lent chain arguments (overflow_program m c last) restart_arguments
 
-  fetch_tic : (m : FileMask) (to : ℕ) → fetch (lent m (To to)) (Restart (rest_place m + 8)) ≡ some (tic to)
+  fetch_tic : (m : Option ℕ) (to : ℕ) → fetch (lent m (Some to)) (Restart (rest_place m + 8)) ≡ Some (tic to)
   unfolding pick two three rest_place Ccw.fetch Ccw.fetch_in Ccw.ccw_at Program.ccw_bytes Program.tic_to Program.padded Program.mask_ccw Program.program_ending Program.tic_ccw overflow_program
-  fetch_tic Unset to = ap (λ n. some (tic n)) (three_back to)
-  fetch_tic (Set b) to = ap (λ n. some (tic n)) (three_back to)
+  fetch_tic None to = ap (λ n. Some (tic n)) (three_back to)
+  fetch_tic (Some b) to = ap (λ n. Some (tic n)) (three_back to)
 
-  pub lead_on : (m : FileMask) (to : ℕ) (d : Ccw) → to < 0x1000 → fetch_in chain to ≡ some d → is_tic d ≡ false
-      → resolve (restart_lent chain arguments (overflow_program m c (To to)) restart_arguments) (Restart (rest_place m)) (next (Restart (rest_place m))) ≡ Got (Chain to) d
+  pub lead_on : (m : Option ℕ) (to : ℕ) (d : Ccw) → to < 0x1000 → fetch_in chain to ≡ Some d → is_tic d ≡ false
+      → resolve (restart_lent chain arguments (overflow_program m c (Some to)) restart_arguments) (Restart (rest_place m)) (next (Restart (rest_place m))) ≡ Ok (Chain to, d)
   unfolding next resolve pick Ccw.follow Ccw.landed Ccw.target Ccw.fetch
   lead_on m to d low there plain = rw (fetch_tic m to, is_tic_lem to, lt-ltb to 0x1000 low, there, plain)
 

@@ -4,11 +4,11 @@
 --   overflow_goes_on   the rule of 9 and 11
 --   nine-goes-on, eleven-goes-on
 --                      actions 9 and 11
+use Rattle.std.specs.Prelude.{Option, Some, None, Result, Ok, Err}
 use Prim.Native.Nat.{ℕ, ◌+◌, ◌≤◌, ◌<◌}
 use native.Mathlib.Omega.{arith}
 use mathlib.Core.Path.{◌≡◌, refl, ap, sym, ◌∙◌}
 use mathlib.Core.Bool.{Bool, true, false, ◌&&◌, not}
-use mathlib.Core.Option.{Option, some}
 use mathlib.Core.List.{List}
 use lib.Dec.{eqb}
 use lib.ListN.{length}
@@ -20,15 +20,11 @@ use Rattle.address.specs.declared.Address.{Address}
 use Rattle.channel.specs.declared.Ccw.{Ccw}
 use Rattle.channel.specs.declared.Location.{Location}
 use Rattle.channel.specs.declared.Location.TheVariants.{Chain, Restart}
-use Rattle.channel.specs.declared.Fetched.{Fetched}
-use Rattle.channel.specs.declared.Fetched.TheVariants.{Got, Broken}
 use Rattle.channel.specs.Ccw.{chains_data, address_of, next, fetch, resolve}
 use Rattle.channel.specs.Walk.{Walk, walked, checked}
 use Rattle.channel.proofs.InChain.{WalkIn, walk_in}
 use Rattle.channel.proofs.Shown.{fetched_inside}
 use Rattle.channel.proofs.Walks.{resolve_got}
-use Rattle.restart.specs.declared.LastTic.{LastTic}
-use Rattle.restart.specs.declared.LastTic.TheVariants.{To, Absent}
 use Rattle.restart.specs.Restart.{rest_ccw, overflow_program}
 use Rattle.recovery.specs.Report.{Report}
 use Rattle.recovery.specs.Recovery as Recovery
@@ -46,7 +42,7 @@ module _ (g : Given) (r : Report) (st : List ℕ) where
 
   -- the uncut read, of m bytes more, goes on from the interrupted CCW, which is c at a place of the chain, with the CSW's count left
   record Was (read : Ccw) (before : List (Option ℕ)) (at : ℕ) (c : Ccw) : Type 0 where
-    reads : overflow_read g r st ≡ some read
+    reads : overflow_read g r st ≡ Some read
     is_cut : uncut_walk g r st read displacement ≡ walked before (Chain at) c r.csw.count false
     shown : r.csw.address ≡ at + 8
     some_left : 0 < r.csw.count
@@ -59,14 +55,14 @@ module _ (g : Given) (r : Report) (st : List ℕ) where
     abbrev first : Ccw
     first = rest_ccw c r.csw.count
 
-    abbrev program : LastTic → List ℕ
+    abbrev program : Option ℕ → List ℕ
     program last = overflow_program r.mask first last
 
     -- what comes next to the interrupted CCW, where that chains data, is where the last TIC leads
-    abbrev NextBy : LastTic → Type 0
-    NextBy last = chains_data c ≡ true → (to : ℕ) × (d : Ccw) × (last ≡ To to) × (resolve (only_chain g.chain) (Chain at) (next (Chain at)) ≡ Got (Chain to) d)
+    abbrev NextBy : Option ℕ → Type 0
+    NextBy last = chains_data c ≡ true → (to : ℕ) × (d : Ccw) × (last ≡ Some to) × (resolve (only_chain g.chain) (Chain at) (next (Chain at)) ≡ Ok (Chain to, d))
 
-    leads : (last : LastTic) → NextBy last → (arguments : List ℕ) → chains_data c ≡ true → Leads g.chain arguments (program last) restart_arguments one (Chain at) c
+    leads : (last : Option ℕ) → NextBy last → (arguments : List ℕ) → chains_data c ≡ true → Leads g.chain arguments (program last) restart_arguments one (Chain at) c
     unfolding fetch only_chain
     leads last h arguments on =
         let v = h on in
@@ -79,7 +75,7 @@ module _ (g : Given) (r : Report) (st : List ℕ) where
           by_chain = v.3;
         }
 
-    goes : (last : LastTic) → NextBy last → (arguments : List ℕ) (more : ℕ)
+    goes : (last : Option ℕ) → NextBy last → (arguments : List ℕ) (more : ℕ)
         → GoesOnAs before one first (Chain at) c
         (rest_walk (restart_lent g.chain arguments (program last) restart_arguments) r st first more)
         (uncut_walk g r st read (displacement + more))
@@ -88,7 +84,7 @@ module _ (g : Given) (r : Report) (st : List ℕ) where
         let goes_on = rest_goes g.chain arguments (program last) restart_arguments one (Chain at) c before (length st) r.csw.count more in
         rw (was.on more).on (goes_on was.some_left (leads last h arguments))
 
-    rests : (last : LastTic) → NextBy last → RestGoesOn g r st (program last) restart_arguments
+    rests : (last : Option ℕ) → NextBy last → RestGoesOn g r st (program last) restart_arguments
     unfolding rest_ccw
     rests last h =
         record {
@@ -131,25 +127,25 @@ module _ (g : Given) (r : Report) (st : List ℕ) where
         let its_arguments : a ≡ restart_arguments = cc in
         (kind, stays, rw (← its_program, ← its_arguments) h)
 
-    restart_tells : (a : Address) (c : Ccw) (last : LastTic) → ((x : List ℕ) → RestGoesOn g r st (overflow_program r.mask (rest_ccw c r.csw.count) last) x)
+    restart_tells : (a : Address) (c : Ccw) (last : Option ℕ) → ((x : List ℕ) → RestGoesOn g r st (overflow_program r.mask (rest_ccw c r.csw.count) last) x)
         → Tells (Recovery.overflow_restart g r st k a c last)
     unfolding Recovery.overflow_restart
     restart_tells a c last h = both Tells _ (built _ _ (h _)) second
 
-    module _ (a : Address) (read : Ccw) (reads : overflow_read g r st ≡ some read) where
+    module _ (a : Address) (read : Ccw) (reads : overflow_read g r st ≡ Some read) where
       module _ (before : List (Option ℕ)) (at : ℕ) (c : Ccw) (was : Was read before at c) where
-        next_tells : (f : Fetched) → resolve (only_chain g.chain) (Chain at) (next (Chain at)) ≡ f
-            → Tells (Recovery.on_next f (Recovery.refused Question.Agreement) (λ to d. Recovery.overflow_restart g r st k a c (To to)))
+        next_tells : (f : Result (Location × Ccw) Location) → resolve (only_chain g.chain) (Chain at) (next (Chain at)) ≡ f
+            → Tells (Recovery.on_next f (Recovery.refused Question.Agreement) (λ to d. Recovery.overflow_restart g r st k a c (Some to)))
         unfolding Recovery.on_next
-        next_tells (Broken l) e = refuses _
-        next_tells (Got (Restart to) d) e = refuses _
-        next_tells (Got (Chain to) d) e = restart_tells a c (To to) (λ x. rests low read before at c was x (To to) (λ on. (to, d, refl, e)))
+        next_tells (Err l) e = refuses _
+        next_tells (Ok (Restart to, d)) e = refuses _
+        next_tells (Ok (Chain to, d)) e = restart_tells a c (Some to) (λ x. rests low read before at c was x (Some to) (λ on. (to, d, refl, e)))
 
         from_tells : Tells (Recovery.from_interrupted g r st k a (Chain at) c)
         unfolding Recovery.from_interrupted
         from_tells =
             both_if Tells _ (λ on. next_tells _ refl)
-            (λ off. restart_tells a c Absent (λ x. rests low read before at c was x Absent (λ on. never (sym (rw on at off)))))
+            (λ off. restart_tells a c None (λ x. rests low read before at c was x None (λ on. never (sym (rw on at off)))))
 
       -- the walk of the restart displacement came to w, and every longer walk goes on from there
       abbrev Onward : Walk → Type 0

@@ -1,5 +1,6 @@
 -- Whatever recovery answers: a restart of 9 or 11 goes on where the read was cut.
 --   recovery_goes_on   the theorem
+use Rattle.std.specs.Prelude.{Result, Ok, Err}
 use Prim.Native.Nat.{ℕ, ◌≤◌}
 use native.Mathlib.Omega.{arith}
 use mathlib.Core.Path.{◌≡◌, refl, ap, sym, ◌∙◌}
@@ -11,14 +12,14 @@ use Rattle.questions.specs.declared.Question.{Question}
 use Rattle.questions.specs.declared.Question.TheVariants as Question
 use Rattle.address.specs.declared.Address.{Address}
 use Rattle.channel.specs.declared.Location.TheVariants.{Chain, Restart}
-use Rattle.channel.specs.declared.Fetched.{Fetched}
-use Rattle.channel.specs.declared.Fetched.TheVariants.{Got, Broken}
 use Rattle.recovery.specs.Report.{Report}
 use Rattle.recovery.specs.Recovery as Recovery
 use Rattle.recovery.specs.Recovery.{Given, Kind, Recovery, restarts}
 use Rattle.recovery.proofs.Answers.{five_by}
 use Rattle.overflow_rest.specs.Rest.{RestGoesOn, has_rest, RecoveryGoesOn}
 use Rattle.overflow_rest.proofs.Rest.{nine_goes_on, eleven_goes_on}
+use Rattle.channel.specs.declared.Location.{Location}
+use Rattle.channel.specs.declared.Ccw.{Ccw}
 
 module _ (g : Given) (r : Report) (st : List ℕ) (low : length g.chain ≤ 0x1000) (j : Kind) (program restart_arguments s : List ℕ) where
   -- what a restart of 9 or 11 tells; other answers tell nothing
@@ -59,11 +60,11 @@ module _ (g : Given) (r : Report) (st : List ℕ) (low : length g.chain ≤ 0x10
   unfolding Recovery.action_eight Recovery.with_track has_rest
   eight_rests = either Rests _ (refused _) (λ a. either Rests _ (refused _) (λ c. home_rests Recovery.eight _ _ refl))
 
-  next_rests : (a : Address) (f : Fetched) → Rests (Recovery.on_next f (Recovery.refused Question.Agreement) (λ to d. Recovery.home_restart g r st Recovery.ten a to))
+  next_rests : (a : Address) (f : Result (Location × Ccw) Location) → Rests (Recovery.on_next f (Recovery.refused Question.Agreement) (λ to d. Recovery.home_restart g r st Recovery.ten a to))
   unfolding Recovery.on_next has_rest
-  next_rests a (Broken l) = refused _
-  next_rests a (Got (Restart to) d) = refused _
-  next_rests a (Got (Chain to) d) = home_rests Recovery.ten a to refl
+  next_rests a (Err l) = refused _
+  next_rests a (Ok (Restart to, d)) = refused _
+  next_rests a (Ok (Chain to, d)) = home_rests Recovery.ten a to refl
 
   ten_rests : Rests (Recovery.action_ten g r st)
   unfolding Recovery.action_ten Recovery.with_track Recovery.seek_restart Recovery.reached_restart has_rest

@@ -10,8 +10,7 @@
 --   NineGoesOn, ElevenGoesOn   of actions 9 and 11
 --   OverflowGoesOn             of the rule that both follow, to whichever track
 --   RecoveryGoesOn             of recovery, where it answers a restart of 9 or 11
-use Rattle.std.specs.Prelude.{ℕ, ◌+◌, ◌≤◌, ◌≡◌, Bool, true, false, List, ◌++◌, length}
-use Rattle.std.proofs.Math.Option.{Option, some}
+use Rattle.std.specs.Prelude.{ℕ, ◌+◌, ◌≤◌, ◌≡◌, Bool, true, false, List, ◌++◌, length, Option, Some, None}
 use Rattle.address.specs.declared.Address.{Address}
 use Rattle.channel.specs.declared.Ccw.{Ccw}
 use Rattle.channel.specs.declared.Location.{Location}
@@ -19,8 +18,6 @@ use Rattle.channel.specs.declared.Location.TheVariants.{Chain, Restart}
 use Rattle.channel.specs.Ccw.{Lent, fetch_in}
 use Rattle.channel.specs.Store.{store}
 use Rattle.channel.specs.Walk.{Walk, walked, checked, walk, readable, incorrect_length}
-use Rattle.drive.specs.declared.FileMask.{FileMask}
-use Rattle.drive.specs.declared.FileMask.TheVariants.{Unset, Set}
 use Rattle.recovery.specs.Report.{Report}
 use Rattle.recovery.specs.Recovery.{Given, Kind, Recovery, five, five_a, eight, nine, ten, ten_a, eleven, restarts, only_chain, restart_displacement, overflow_read, overflow, action_nine, action_eleven, recover}
 use Rattle.recovery_storage.specs.Storage.{places_of}
@@ -28,9 +25,9 @@ use Rattle.recovery_storage.specs.Storage.{places_of}
 -- ---- two walks
 
 -- "Build 9 as 8 and 11 as 10A, with restart CCW 1 before the last TIC.": behind the seek, the mask (omitted if none), the sector and the 1A
-unfoldable pub rest_place : FileMask → ℕ
-rest_place Unset = 24
-rest_place (Set m) = 32
+unfoldable pub rest_place : Option ℕ → ℕ
+rest_place None = 24
+rest_place (Some m) = 32
 
 -- the chain and its arguments, with a restart program and its arguments beside them
 abbrev pub restart_lent : (chain arguments program restart_arguments : List ℕ) → Lent
@@ -62,7 +59,7 @@ pub data GoesOnAs (before : List (Option ℕ)) (one : Location) (first : Ccw) (a
 pub record RestGoesOn (g : Given) (r : Report) (st program restart_arguments : List ℕ) : Type 0 where
   -- the read's first CCW
   pub read : Ccw
-  pub reads : overflow_read g r st ≡ some read
+  pub reads : overflow_read g r st ≡ Some read
   -- the interrupted CCW, which the CSW shows, and the places of the bytes before the cut: as many as the restart displacement says
   pub cut : Ccw
   pub at : ℕ
@@ -72,7 +69,7 @@ pub record RestGoesOn (g : Given) (r : Report) (st program restart_arguments : L
   pub counted : length before ≡ restart_displacement r.sense
   -- CCW 1: at its place of the program; a 06; a read may use it; what is incorrect length for the interrupted CCW is so for it, and nothing else
   pub first : Ccw
-  pub stands : fetch_in program (rest_place r.mask) ≡ some first
+  pub stands : fetch_in program (rest_place r.mask) ≡ Some first
   pub reads_data : first.command ≡ 0x06
   pub sound : readable (length st) first ≡ true
   pub judged : (left : ℕ) (over : Bool) → incorrect_length first left over ≡ incorrect_length cut left over

@@ -2,6 +2,7 @@
 --   rest_is, rest_low                  restart CCW 1
 --   resumed                            a restart
 --   alone, next-broken .. next-chain   by whether the interrupted CCW chains, and by the CCW that comes next
+use Rattle.std.specs.Prelude.{Option, Some, None, Result, Ok, Err}
 use Prim.Native.Nat.{ℕ, ◌+◌, ◌-◌, ◌<◌}
 use native.Mathlib.Omega.{arith}
 use mathlib.Core.Path.{◌≡◌, refl, ap, sym, ◌∙◌}
@@ -14,15 +15,10 @@ use Rattle.address.specs.declared.Address.{Address}
 use Rattle.channel.specs.declared.Ccw.{Ccw}
 use Rattle.channel.specs.declared.Location.{Location}
 use Rattle.channel.specs.declared.Location.TheVariants.{Chain, Restart}
-use Rattle.channel.specs.declared.Fetched.{Fetched}
-use Rattle.channel.specs.declared.Fetched.TheVariants.{Got, Broken}
 use Rattle.channel.specs.Ccw.{chains_data, chains_command, skips, next, resolve}
 use Rattle.channel.specs.Fetch.{InBytes}
 use Rattle.channel.specs.Walk.{readable}
 use Rattle.channel.proofs.Readable.{room}
-use Rattle.drive.specs.declared.FileMask.{FileMask}
-use Rattle.restart.specs.declared.LastTic.{LastTic}
-use Rattle.restart.specs.declared.LastTic.TheVariants.{To, Absent}
 use Rattle.restart.specs.Restart.{rest_ccw}
 use Rattle.recovery.specs.Recovery as Recovery
 use Rattle.recovery.specs.Recovery.{seek_allowed, only_chain, on_next}
@@ -64,8 +60,8 @@ module _ (c : Ccw) (left m : ℕ) (e : m ≡ pick (skips c) 0 (c.count - left)) 
 
 -- ---- the restart
 
-module _ (mask : FileMask) (track : Address) (kind : Kind) where
-  pub resumed : (c : Ccw) (left : ℕ) (tic : LastTic) (first : Ccw) → first ≡ rest_ccw c left
+module _ (mask : Option ℕ) (track : Address) (kind : Kind) where
+  pub resumed : (c : Ccw) (left : ℕ) (tic : Option ℕ) (first : Ccw) → first ≡ rest_ccw c left
       → OverflowRestarts mask track kind c left tic (Resumes (record { track = track; mask = mask; kind = kind; first = first; tic = tic }))
   unfolding Recovery.overflow_restart seek_allowed applied
   resumed c left tic first e = λ chain k rows x r st p a i shown m.
@@ -74,33 +70,33 @@ module _ (mask : FileMask) (track : Address) (kind : Kind) where
       (applied_pick (allowed x track) (Recovery.restarts k _ _ st) Recovery.action_two st p a)
 
   module _ (chain : List ℕ) (e : WalkEnd) where
-    pub alone : (d : Decision) → (chains_data e.ccw || chains_command e.ccw) ≡ false → OverflowRestarts mask track kind e.ccw e.left Absent d
+    pub alone : (d : Decision) → (chains_data e.ccw || chains_command e.ccw) ≡ false → OverflowRestarts mask track kind e.ccw e.left None d
         → GoesFrom chain mask track kind e d
     unfolding Recovery.from_interrupted
     alone d h q = λ k rows x r st p a i shown m. q chain k rows x r st p a i shown m ∙ sym (ap (λ v. applied v st p a) (pick_false _ _ h))
 
     module _ (h : (chains_data e.ccw || chains_command e.ccw) ≡ true) where
-      abbrev behind : Fetched
+      abbrev behind : Result (Location × Ccw) Location
       behind = resolve (only_chain chain) e.at (next e.at)
 
       -- by the CCW that comes next
-      by_next : (d : Decision) (f : Fetched) → f ≡ behind
-          → DecidesKind (λ k g r st. on_next f (Recovery.refused Question.Agreement) (λ to b. Recovery.overflow_restart g r st k track e.ccw (To to)))
+      by_next : (d : Decision) (f : Result (Location × Ccw) Location) → f ≡ behind
+          → DecidesKind (λ k g r st. on_next f (Recovery.refused Question.Agreement) (λ to b. Recovery.overflow_restart g r st k track e.ccw (Some to)))
           chain (λ w. w.count ≡ e.left) mask kind d
           → GoesFrom chain mask track kind e d
       unfolding Recovery.from_interrupted
       by_next d f n q = λ k rows x r st p a i shown m.
           q k rows x r st p a i shown m ∙ rw n (sym (ap (λ v. applied v st p a) (pick_true _ _ h)))
 
-      pub next_broken : (y : Location) → Broken y ≡ behind → GoesFrom chain mask track kind e refusal
+      pub next_broken : (y : Location) → Err y ≡ behind → GoesFrom chain mask track kind e refusal
       unfolding on_next applied done bounded
-      next_broken y n = by_next refusal (Broken y) n (λ k rows x r st p a i shown m. refl)
+      next_broken y n = by_next refusal (Err y) n (λ k rows x r st p a i shown m. refl)
 
-      pub next_restart : (b : ℕ) (c : Ccw) → Got (Restart b) c ≡ behind → GoesFrom chain mask track kind e refusal
+      pub next_restart : (b : ℕ) (c : Ccw) → Ok (Restart b, c) ≡ behind → GoesFrom chain mask track kind e refusal
       unfolding on_next applied done bounded
-      next_restart b c n = by_next refusal (Got (Restart b) c) n (λ k rows x r st p a i shown m. refl)
+      next_restart b c n = by_next refusal (Ok (Restart b, c)) n (λ k rows x r st p a i shown m. refl)
 
-      pub next_chain : (to : ℕ) (c : Ccw) (d : Decision) → Got (Chain to) c ≡ behind → OverflowRestarts mask track kind e.ccw e.left (To to) d
+      pub next_chain : (to : ℕ) (c : Ccw) (d : Decision) → Ok (Chain to, c) ≡ behind → OverflowRestarts mask track kind e.ccw e.left (Some to) d
           → GoesFrom chain mask track kind e d
       unfolding on_next
-      next_chain to c d n q = by_next d (Got (Chain to) c) n (q chain)
+      next_chain to c d n q = by_next d (Ok (Chain to, c)) n (q chain)

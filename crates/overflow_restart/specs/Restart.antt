@@ -1,13 +1,11 @@
 -- What a restart inside an overflow record means.
-use Rattle.std.specs.Prelude.{ℕ, ◌≤◌, ◌≡◌, true, List, []}
+use Rattle.std.specs.Prelude.{ℕ, ◌≤◌, ◌≡◌, true, List, [], Option}
 use Rattle.address.specs.declared.Address.{Address}
 use Rattle.address.specs.declared.Extent.{Extent}
 use Rattle.channel.specs.declared.Ccw.{Ccw}
 use Rattle.channel.specs.declared.Csw.{Csw}
 use Rattle.channel.specs.Fetch.{InBytes, Inside}
 use Rattle.channel.specs.Walk.{readable}
-use Rattle.drive.specs.declared.FileMask.{FileMask}
-use Rattle.restart.specs.declared.LastTic.{LastTic}
 use Rattle.recovery.specs.Table.{Row}
 use Rattle.recovery.specs.Report.{Report}
 use Rattle.recovery.specs.Recovery as Recovery
@@ -26,17 +24,17 @@ pub record Interrupted (chain : List ℕ) (e : WalkEnd) : Type 0 where
   pub left : e.left ≤ e.ccw.count
 
 -- what f makes of every report with this CSW and mask, by a restart of this kind
-abbrev pub DecidesKind : (Recovery.Kind → Given → Report → List ℕ → Recovery.Recovery) → (chain : List ℕ) → (Csw → Type 0) → FileMask → Kind → Decision → Type 0
+abbrev pub DecidesKind : (Recovery.Kind → Given → Report → List ℕ → Recovery.Recovery) → (chain : List ℕ) → (Csw → Type 0) → Option ℕ → Kind → Decision → Type 0
 DecidesKind f chain Shown mask kind d =
     (k : Recovery.Kind) (rows : List Row) (x : Extent) (r : Report) (st p a : List ℕ) → kind_of k ≡ kind → Shown r.csw → r.mask ≡ mask
     → Means x d st p a (f k (given_of rows chain x) r st)
 
 -- to a track, with restart CCW 1 for the rest of the CCW c, of which this count is left
-abbrev pub OverflowRestarts : FileMask → Address → Kind → Ccw → (left : ℕ) → LastTic → Decision → Type 0
+abbrev pub OverflowRestarts : Option ℕ → Address → Kind → Ccw → (left : ℕ) → Option ℕ → Decision → Type 0
 OverflowRestarts mask track kind c left tic d =
     (chain : List ℕ) → DecidesKind (λ k g r st. Recovery.overflow_restart g r st k track c tic) chain (λ w. w.count ≡ left) mask kind d
 
 -- from the CCW on that a walk ended with
-abbrev pub GoesFrom : (chain : List ℕ) → FileMask → Address → Kind → WalkEnd → Decision → Type 0
+abbrev pub GoesFrom : (chain : List ℕ) → Option ℕ → Address → Kind → WalkEnd → Decision → Type 0
 GoesFrom chain mask track kind e d =
     DecidesKind (λ k g r st. Recovery.from_interrupted g r st k track e.at e.ccw) chain (λ w. w.count ≡ e.left) mask kind d

@@ -11,12 +11,10 @@ ghost use Rattle.decision.specs.Decision.{GoesLow};
 ghost use Rattle.overflow_restart.specs.Restart.{Interrupted, OverflowRestarts, GoesFrom};
 
 use address::Address;
-use channel::{Ccw, Fetched, Location};
+use channel::{Ccw, Location};
 use decision::{Decision, OverflowPlan};
-use drive::FileMask;
 use questions::Question;
 use recovered::{Kind, Recovered};
-use restart::LastTic;
 
 // Where a data chain ended: its last CCW, and the count left there.
 #[derive(Clone, Copy)]
@@ -38,7 +36,14 @@ fn moved_on(c: Ccw, left: usize) -> usize
 }
 
 // The restart to track a that goes on with the rest of the CCW c, of which this count is left.
-fn resume(mask: FileMask, a: Address, kind: Kind, c: Ccw, left: usize, tic: LastTic) -> Decision
+fn resume(
+    mask: Option<u8>,
+    a: Address,
+    kind: Kind,
+    c: Ccw,
+    left: usize,
+    tic: Option<usize>,
+) -> Decision
     requires in_bytes { InBytes c }
     requires c_value { readable 65536 c ≡ true }
     requires left_le_count { left ≤ c.count }
@@ -74,7 +79,7 @@ fn chains(c: Ccw) -> bool
 // The restart from the CCW on that was interrupted.
 pub fn from_interrupted(
     chain: &[u8],
-    mask: FileMask,
+    mask: Option<u8>,
     a: Address,
     kind: Kind,
     e: WalkEnd,
@@ -87,14 +92,14 @@ pub fn from_interrupted(
     let l = e.at;
     let c = e.ccw;
     if !chains(c) {
-        return resume(mask, a, kind, c, e.left, LastTic::Absent);
+        return resume(mask, a, kind, c, e.left, None);
     }
     let behind = location::next(l);
     match channel::resolve(chain, &chain[..0], l, behind) {
-        Fetched::Broken(_) => Decision::Answers(Recovered::Refused(Question::Agreement)),
-        Fetched::Got(to, _) => match to {
+        Err(_) => Decision::Answers(Recovered::Refused(Question::Agreement)),
+        Ok((to, _)) => match to {
             Location::Restart(_) => Decision::Answers(Recovered::Refused(Question::Agreement)),
-            Location::Chain(at) => resume(mask, a, kind, c, e.left, LastTic::To(at)),
+            Location::Chain(at) => resume(mask, a, kind, c, e.left, Some(at)),
         },
     }
 }

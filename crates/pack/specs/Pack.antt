@@ -1,7 +1,6 @@
 -- The decoded pack: what the tagged fields of an image say (document 01, "Tagged fields", "Image").
 -- Whether that is well formed is another matter: question 2, in the crate `image`.
-use Rattle.std.specs.Prelude.{ℕ, ◌+◌, ◌&&◌, List, [], ◌∷◌, eqb, leb, length, get_or}
-use Rattle.std.proofs.Math.Option.{Option, none, some}
+use Rattle.std.specs.Prelude.{ℕ, ◌+◌, ◌&&◌, List, [], ◌∷◌, eqb, leb, length, get_or, Option, Some, None}
 use Rattle.base.specs.Choice.{pick, opt}
 use Rattle.base.specs.Bytes.{be16_at, part}
 use Rattle.fields.specs.Fields.{Field, folded_at}
@@ -19,20 +18,20 @@ pub record Record : Type 0 where
 unfoldable pub record_of : List ℕ → Option Record
 record_of s =
     pick (leb 8 (length s) && eqb (length s) (8 + get_or s 5 0 + be16_at s 6))
-    (some (record {
+    (Some (record {
       at = record { cylinder = be16_at s 0; head = be16_at s 2 };
       r = get_or s 4 0;
       key = part s 8 (8 + get_or s 5 0);
       body = part s (8 + get_or s 5 0) (length s);
     }))
-    none
+    None
 
 -- "home address (5: flag 00, cylinder 2, 00, head)"
 unfoldable pub home_of : List ℕ → Option Address
 home_of s =
     pick (eqb (length s) 5 && eqb (get_or s 0 0) 0 && eqb (get_or s 3 0) 0)
-    (some (record { cylinder = be16_at s 1; head = get_or s 4 0 }))
-    none
+    (Some (record { cylinder = be16_at s 1; head = get_or s 4 0 }))
+    None
 
 -- A track: its home address, and its records in the order of the image.
 pub record Track : Type 0 where
@@ -55,9 +54,9 @@ led_by_home a d = record { records = []; tracks = record { at = a; records = d.r
 -- "Image: 01 home address .., then 02 per record"
 unfoldable pub led_by : Field → Decoded → Option Decoded
 led_by f d =
-    pick (eqb f.tag 1) (opt (home_of f.contents) none (λ a. some (led_by_home a d)))
-    (pick (eqb f.tag 2) (opt (record_of f.contents) none (λ x. some (led_by_record x d)))
-    none)
+    pick (eqb f.tag 1) (opt (home_of f.contents) None (λ a. Some (led_by_home a d)))
+    (pick (eqb f.tag 2) (opt (record_of f.contents) None (λ x. Some (led_by_record x d)))
+    None)
 
 -- what no fields at all decode to
 abbrev pub nothing : Decoded
@@ -73,14 +72,14 @@ pack_of s = opt (decode_at s 0) [] (λ d. d.tracks)
 
 -- the track with an address
 unfoldable pub track_in : List Track → Address → Option Track
-track_in [] a = none
-track_in (t ∷ ts) a = pick (same t.at a) (some t) (track_in ts a)
+track_in [] a = None
+track_in (t ∷ ts) a = pick (same t.at a) (Some t) (track_in ts a)
 
 -- the first record with a number
 unfoldable pub numbered : List Record → ℕ → Option Record
-numbered [] r = none
-numbered (x ∷ xs) r = pick (eqb x.r r) (some x) (numbered xs r)
+numbered [] r = None
+numbered (x ∷ xs) r = pick (eqb x.r r) (Some x) (numbered xs r)
 
 -- the record of a pack with an address and a number
 unfoldable pub record_in : List Track → Address → ℕ → Option Record
-record_in ts a r = opt (track_in ts a) none (λ t. numbered t.records r)
+record_in ts a r = opt (track_in ts a) None (λ t. numbered t.records r)

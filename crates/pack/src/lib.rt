@@ -5,83 +5,73 @@ ghost use Rattle.std.specs.Prelude.{◌≡◌, ◌≤◌, length};
 ghost use Rattle.pack.specs.Places.{home_in, home_at, is_track, place_in, record_at, Bounded, TrackFound, RecordFound};
 
 use address::Address;
-use fields::Tagged;
+use fields::Field;
 
-// What stands at a place: a home address, with the place behind its field, or none.
+// A home address, with the place behind its field.
 #[derive(Clone, Copy)]
-pub enum HomeAt {
-    Home { at: Address, next: usize },
-    NoHome,
+pub struct Home {
+    pub at: Address,
+    pub next: usize,
 }
 
 // The home address that a field is, if it is one.
-fn home_in(image: &[u8], tag: u8, start: usize, next: usize) -> HomeAt
-    requires start_le_next { start ≤ next }
-    requires next_in_bounds { next ≤ length image.now }
-    ensures { result ≡ home_in image.now tag start next }
+fn home_in(image: &[u8], f: Field) -> Option<Home>
+    requires start_le_next { f.start ≤ f.next }
+    requires next_in_bounds { f.next ≤ length image.now }
+    ensures { result ≡ home_in image.now f }
 {
-    if tag != 1 {
-        return HomeAt::NoHome;
+    if f.tag != 1 {
+        return None;
     }
-    if next - start != 5 {
-        return HomeAt::NoHome;
+    if f.next - f.start != 5 {
+        return None;
     }
-    if base::byte(image, start) != 0 {
-        return HomeAt::NoHome;
+    if base::byte(image, f.start) != 0 {
+        return None;
     }
-    if base::byte(image, start + 3) != 0 {
-        return HomeAt::NoHome;
+    if base::byte(image, f.start + 3) != 0 {
+        return None;
     }
-    HomeAt::Home {
+    Some(Home {
         at: Address {
-            cylinder: base::be16(image, start + 1),
-            head: base::byte(image, start + 4),
+            cylinder: base::be16(image, f.start + 1),
+            head: base::byte(image, f.start + 4),
         },
-        next: next,
-    }
+        next: f.next,
+    })
 }
 
-pub fn home_at(image: &[u8], at: usize) -> HomeAt
+// The home address whose field begins at a place, if one does.
+pub fn home_at(image: &[u8], at: usize) -> Option<Home>
     ensures { result ≡ home_at image.now at }
 {
-    let Tagged::Field { tag, start, next } = fields::field_at(image, at) else {
-        return HomeAt::NoHome;
-    };
-    home_in(image, tag, start, next)
+    let f = fields::field_at(image, at)?;
+    home_in(image, f)
 }
 
 // Whether a field is the home address of the track.
-fn is_track(image: &[u8], tag: u8, start: usize, next: usize, a: Address) -> bool
-    requires start_le_next { start ≤ next }
-    requires next_in_bounds { next ≤ length image.now }
-    ensures { result ≡ is_track image.now tag start next a }
+fn is_track(image: &[u8], f: Field, a: Address) -> bool
+    requires start_le_next { f.start ≤ f.next }
+    requires next_in_bounds { f.next ≤ length image.now }
+    ensures { result ≡ is_track image.now f a }
 {
-    let HomeAt::Home { at, next: _ } = home_in(image, tag, start, next) else {
+    let Some(home) = home_in(image, f) else {
         return false;
     };
-    at.same(a)
+    home.at == a
 }
 
-// Where the records of a track begin.
-#[derive(Clone, Copy)]
-pub enum TrackAt {
-    Records(usize),
-    NoTrack,
-}
-
-// The track's place, by one walk over the image's fields.
-pub fn find_track(image: &[u8], a: Address) -> TrackAt
+// Where the records of a track begin, if the image has the track: found by one walk over the image's fields.
+pub fn find_track(image: &[u8], a: Address) -> Option<usize>
     ensures { TrackFound image.now a result }
 {
     let mut here = 0;
     loop {
-        let Tagged::Field { tag, start, next } = fields::field_at(image, here) else {
-            return TrackAt::NoTrack;
-        };
-        if is_track(image, tag, start, next, a) {
-            return TrackAt::Records(next);
+        let f = fields::field_at(image, here)?;
+        if is_track(image, f, a) {
+            return Some(f.next);
         }
-        here = next;
+        here = f.next;
     }
 }
 
@@ -95,67 +85,56 @@ pub struct Place {
     pub next: usize,
 }
 
-// What stands at a place: a record, or none.
-#[derive(Clone, Copy)]
-pub enum RecordAt {
-    Located(Place),
-    NoRecord,
-}
-
 // The record that a field is, if it is one.
-fn record_in(image: &[u8], tag: u8, start: usize, next: usize) -> RecordAt
-    requires start_le_next { start ≤ next }
-    requires next_in_bounds { next ≤ length image.now }
-    ensures value { result ≡ place_in image.now tag start next }
+fn record_in(image: &[u8], f: Field) -> Option<Place>
+    requires start_le_next { f.start ≤ f.next }
+    requires next_in_bounds { f.next ≤ length image.now }
+    ensures value { result ≡ place_in image.now f }
     ensures bounded { Bounded image.now result }
 {
-    if tag != 2 {
-        return RecordAt::NoRecord;
+    if f.tag != 2 {
+        return None;
     }
-    if next - start < 8 {
-        return RecordAt::NoRecord;
+    if f.next - f.start < 8 {
+        return None;
     }
-    let key = base::byte(image, start + 5);
-    let len = base::be16(image, start + 6);
-    if next - start != 8 + key + len {
-        return RecordAt::NoRecord;
+    let key = base::byte(image, f.start + 5);
+    let len = base::be16(image, f.start + 6);
+    if f.next - f.start != 8 + key + len {
+        return None;
     }
-    RecordAt::Located(Place {
+    Some(Place {
         at: Address {
-            cylinder: base::be16(image, start),
-            head: base::be16(image, start + 2),
+            cylinder: base::be16(image, f.start),
+            head: base::be16(image, f.start + 2),
         },
-        r: base::byte(image, start + 4),
-        key: start + 8,
-        body: start + 8 + key,
-        next: next,
+        r: base::byte(image, f.start + 4),
+        key: f.start + 8,
+        body: f.start + 8 + key,
+        next: f.next,
     })
 }
 
-pub fn record_at(image: &[u8], at: usize) -> RecordAt
+// The record whose field begins at a place, if one does.
+pub fn record_at(image: &[u8], at: usize) -> Option<Place>
     ensures value { result ≡ record_at image.now at }
     ensures bounded { Bounded image.now result }
 {
-    let Tagged::Field { tag, start, next } = fields::field_at(image, at) else {
-        return RecordAt::NoRecord;
-    };
-    record_in(image, tag, start, next)
+    let f = fields::field_at(image, at)?;
+    record_in(image, f)
 }
 
 // The first record with a number, from a place on and before the next home address.
-pub fn find_record(image: &[u8], at: usize, r: usize) -> RecordAt
+pub fn find_record(image: &[u8], at: usize, r: usize) -> Option<Place>
     ensures record_found { RecordFound image.now at r result }
     ensures bounded { Bounded image.now result }
 {
     let mut here = at;
     loop {
-        let RecordAt::Located(p) = record_at(image, here) else {
-            return RecordAt::NoRecord;
-        };
+        let p = record_at(image, here)?;
         if p.r == r {
-            return RecordAt::Located(p);
+            return Some(p);
         }
-        let next = p.next;
-        here = next;
+        here = p.next;
     }
 }

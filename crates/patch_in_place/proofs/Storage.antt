@@ -1,8 +1,8 @@
 -- Which bytes of storage the calls of recovery change: `call_patches_in_place`, and from it `giruve_recover_patches_in_place`.
+use Rattle.std.specs.Prelude.{Some}
 use Prim.Native.Nat.{ℕ}
 use mathlib.Core.Path.{◌≡◌, refl, ap, sym, subst, ◌∙◌}
 use mathlib.Core.Bool.{false}
-use mathlib.Core.Option.{some}
 use mathlib.Core.List.{List}
 use lib.ListN.{length, get_or}
 use Rattle.base.proofs.Choice.{both, either_if, never}
@@ -63,7 +63,7 @@ module _ (m : Model) (chain report extent st : List ℕ) where
   unfolding refusal
   refusal_keeps q p a = unpatched (ReportStayed m chain report extent st) (answer_corrects (Refused q)) st st refl
 
-  answer_keeps : (p a : List ℕ) (r : Report) → report_from report ≡ some r → Keeps (applied (Recovery.recover (given_of rows chain (extent_of m extent)) r st) st p a)
+  answer_keeps : (p a : List ℕ) (r : Report) → report_from report ≡ Some r → Keeps (applied (Recovery.recover (given_of rows chain (extent_of m extent)) r st) st p a)
   answer_keeps p a r e =
       let q = Recovery.recover (given_of rows chain (extent_of m extent)) r st in
       let k = patches_in_place (given_of rows chain (extent_of m extent)) r st in
@@ -90,7 +90,7 @@ module _ (model : ℕ) (chain report extent st : List ℕ) where
   abbrev NumberKeeps : Applied → Type 0
   NumberKeeps out = Patched (NumberStayed model chain report extent st) (answer_corrects out.answer) st out.storage
 
-  of_model : (p a : List ℕ) (m : Model) → model_of model ≡ some m → NumberKeeps (recover_call m chain report extent st p a)
+  of_model : (p a : List ℕ) (m : Model) → model_of model ≡ Some m → NumberKeeps (recover_call m chain report extent st p a)
   of_model p a m e =
       let k = call_keeps m chain report extent st p a in
       record { as_long = k.as_long; kept = λ b h. k.kept b (λ t. h (record { of = m; known = e; stayed = t })); untouched = k.untouched }

@@ -1,7 +1,6 @@
 -- Which bytes of storage the calls of recovery change: what `recover::recover` and `giruve_recover` leave, by their contracts, is patched as
 -- `PatchesInPlace` has it (Rattle.recovery_storage.specs.Storage), for every model, chain, report, extent and storage.
-use Rattle.std.specs.Prelude.{ℕ, ◌≡◌, Bool, true, false, ◌&&◌, ◌||◌, List, eqb, get_or}
-use Rattle.std.proofs.Math.Option.{some}
+use Rattle.std.specs.Prelude.{ℕ, ◌≡◌, Bool, true, false, ◌&&◌, ◌||◌, List, eqb, get_or, Some}
 use Rattle.address.specs.declared.Model.{Model}
 use Rattle.address.specs.Model.{model_of}
 use Rattle.address.specs.Within.{extent_of}
@@ -19,13 +18,13 @@ use Rattle.giruve.specs.Recover.{RecoveryHanded, recovery_handed}
 -- A pattern byte of the report stayed at a; bytes that are no report have none.
 pub record ReportStayed (m : Model) (chain report extent st : List ℕ) (a : ℕ) : Type 0 where
   pub told : Report
-  pub is : report_from report ≡ some told
+  pub is : report_from report ≡ Some told
   pub stayed : PatternStayed (given_of rows chain (extent_of m extent)) told st a
 
 -- The same by the number of a model; another number than 1 and 11 has none.
 pub record NumberStayed (model : ℕ) (chain report extent st : List ℕ) (a : ℕ) : Type 0 where
   pub of : Model
-  pub known : model_of model ≡ some of
+  pub known : model_of model ≡ Some of
   pub stayed : ReportStayed of chain report extent st a
 
 -- an action 5 that corrects: "corrected only", "finished", and its restarts

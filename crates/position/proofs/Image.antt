@@ -2,11 +2,11 @@
 --   pack_is           the pack of an image that decodes
 --   sound             a well formed image is sound
 --   decoded, begun    a sound image decodes, and each of its tracks has a first record
+use Rattle.std.specs.Prelude.{Some}
 use Prim.Native.Nat.{ℕ, ◌<◌}
 use native.Mathlib.Omega.{arith}
 use mathlib.Core.Path.{◌≡◌}
 use mathlib.Core.Bool.{true, ◌&&◌}
-use mathlib.Core.Option.{some}
 use mathlib.Core.List.{List, [], ◌∷◌}
 use lib.ListN.{length}
 use Rattle.base.specs.Choice.{opt}
@@ -19,7 +19,7 @@ use Rattle.image.proofs.Pass.{decodes}
 use Rattle.image.proofs.Sound.{track_sound}
 use Rattle.position.specs.Standing.{Sound}
 
-pub pack_is : (image : List ℕ) (d : Decoded) → decode_at image 0 ≡ some d → pack_of image ≡ d.tracks
+pub pack_is : (image : List ℕ) (d : Decoded) → decode_at image 0 ≡ Some d → pack_of image ≡ d.tracks
 unfolding pack_of opt
 pack_is image d h = rw h
 
@@ -38,8 +38,8 @@ track_begun last t h =
 pub sound : (last : ℕ) (image : List ℕ) → well_formed last image ≡ true → Sound image
 sound last image h = record { last = last; formed = h }
 
-pub decoded : {image : List ℕ} → Sound image → (d : Decoded) × (decode_at image 0 ≡ some d)
+pub decoded : {image : List ℕ} → Sound image → (d : Decoded) × (decode_at image 0 ≡ Some d)
 decoded {image} w = decodes w.last image w.formed
 
-pub begun : {image : List ℕ} → Sound image → (a : Address) (t : Track) → track_in (pack_of image) a ≡ some t → 0 < length t.records
+pub begun : {image : List ℕ} → Sound image → (a : Address) (t : Track) → track_in (pack_of image) a ≡ Some t → 0 < length t.records
 begun {image} w a t e = track_begun w.last t (track_sound w.last image a t w.formed e).0

@@ -5,6 +5,7 @@
 --   first_none, second_none, second_seen   the record behind R0
 --   here_read                              the one where the drive stands
 --   ahead_second, ahead_next               the next one other than R0
+use Rattle.std.specs.Prelude.{Option, Some, None}
 use Prim.Native.Nat.{ℕ, suc, ◌+◌, ◌-◌, ◌<◌, ◌≤◌}
 use native.Mathlib.Omega.{arith}
 use native.Mathlib.Numerals.{add-one}
@@ -19,8 +20,6 @@ use borrow.Author.Tests.{ltb-true, ltb-false, lt-ltb, le-ltb, ne_eqb}
 use Rattle.base.specs.Choice.{pick}
 use Rattle.base.proofs.Choice.{split}
 use Rattle.pack.specs.declared.Place.{Place}
-use Rattle.pack.specs.declared.RecordAt.{RecordAt}
-use Rattle.pack.specs.declared.RecordAt.TheVariants.{Located, NoRecord}
 use Rattle.pack.specs.Pack.{Record, Track, Decoded, led_by_record}
 use Rattle.pack.specs.Places.{record_at, record_from, Within, Bounded}
 use Rattle.pack.proofs.Decode.{record_bounds}
@@ -28,8 +27,6 @@ use Rattle.pack.proofs.Lookup.{next_record, no_record as no_record_lem}
 use Rattle.drive.specs.Drive.{turn, past_zero, no_record}
 use Rattle.position.specs.declared.Drive.{Drive}
 use Rattle.position.specs.declared.Spot.{Spot}
-use Rattle.position.specs.declared.Sighted.{Sighted}
-use Rattle.position.specs.declared.Sighted.TheVariants.{Seen, Unseen}
 use Rattle.position.specs.Standing.{StandsAt, OnTrack, Standing}
 use Rattle.position.specs.Spots.{Spotted, Spots, Second, Here, Ahead}
 
@@ -59,7 +56,7 @@ abbrev pub spot_at : ℕ → ℕ → Place → Spot
 spot_at place start p = record { place = place; start = start; parts = p }
 
 module _ (image : List ℕ) (t : Track) (place start : ℕ) (s : StandsAt image start t place) where
-  pub spotted : (p : Place) → place ≤ start → record_at image start ≡ Located p → Within image p → Spotted image t (spot_at place start p)
+  pub spotted : (p : Place) → place ≤ start → record_at image start ≡ Some p → Within image p → Spotted image t (spot_at place start p)
   unfolding led_by_record
   spotted p near h w =
       let n = next_record image start s.0 s.1 p h in
@@ -77,7 +74,7 @@ module _ (image : List ℕ) (t : Track) (place start : ℕ) (s : StandsAt image 
         found = h;
       }
 
-  pub ended : record_at image start ≡ NoRecord → length t.records ≤ place
+  pub ended : record_at image start ≡ None → length t.records ≤ place
   ended h = drop_none t.records place (sym s.2 ∙ no_record_lem image start s.0 s.1 h)
 
 -- ---- behind it
@@ -129,44 +126,44 @@ unfolding turn past_zero pick
 past_last n place h = rw (le-ltb _ _ h)
 
 module _ (image : List ℕ) (d : Drive) where
-  pub first_none : record_at image d.records ≡ NoRecord → Second image d Unseen
+  pub first_none : record_at image d.records ≡ None → Second image d None
   first_none h = λ t o. let e = ended image t 0 d.records o.first h in omega arith
 
-  module _ (zero : Place) (h : record_at image d.records ≡ Located zero) (w : Within image zero) where
+  module _ (zero : Place) (h : record_at image d.records ≡ Some zero) (w : Within image zero) where
     behind_zero : (t : Track) → OnTrack image d t → StandsAt image zero.next t 1
     behind_zero t o = (spotted image t 0 d.records o.first zero (omega arith) h w).ahead
 
-    pub second_none : record_at image zero.next ≡ NoRecord → Second image d Unseen
+    pub second_none : record_at image zero.next ≡ None → Second image d None
     second_none g = λ t o. ended image t 1 zero.next (behind_zero t o) g
 
-    pub second_seen : (p : Place) → record_at image zero.next ≡ Located p → Within image p → Second image d (Seen (spot_at 1 zero.next p))
+    pub second_seen : (p : Place) → record_at image zero.next ≡ Some p → Within image p → Second image d (Some (spot_at 1 zero.next p))
     second_seen p g v = λ t o.
         let b = record_bounds image d.records zero h in
         (spotted image t 1 zero.next (behind_zero t o) p (omega (arith, b.behind, b.in_order)) g v, refl)
 
   -- before R0, and behind the last record, the next one other than R0 is the one behind R0
-  module _ (r : Sighted) (s : Second image d r) where
+  module _ (r : Option Spot) (s : Second image d r) where
     as_second : ((t : Track) → OnTrack image d t → past_zero (turn (length t.records) d.next) ≡ 1) → Ahead image d r
     as_second e = by r s
       where
-        by : (r : Sighted) → Second image d r → Ahead image d r
-        by (Seen x) s = λ t o. let g = s t o in (g.0, g.1 ∙ sym (e t o))
-        by Unseen s = λ t o. rw (e t o) (s t o)
+        by : (r : Option Spot) → Second image d r → Ahead image d r
+        by (Some x) s = λ t o. let g = s t o in (g.0, g.1 ∙ sym (e t o))
+        by None s = λ t o. rw (e t o) (s t o)
 
     ahead_first : d.next ≡ 0 → Ahead image d r
     ahead_first e = as_second (λ t _. before_zero (length t.records) d.next e)
 
-    ahead_last : record_at image d.here ≡ NoRecord → Ahead image d r
+    ahead_last : record_at image d.here ≡ None → Ahead image d r
     ahead_last h = as_second (λ t o. past_last (length t.records) d.next (ended image t d.next d.here o.ahead h))
 
-    pub ahead_second : Here image d NoRecord → Ahead image d r
+    pub ahead_second : Here image d None → Ahead image d r
     ahead_second h = ⊎_elim ahead_first ahead_last h
 
-  pub here_read : (r : RecordAt) → (d.next ≡ 0 → ⊥) → r ≡ record_at image d.here → Bounded image r → Here image d r
-  here_read (Located p) n e w = (n, sym e, w)
-  here_read NoRecord n e w = inr (sym e)
+  pub here_read : (r : Option Place) → (d.next ≡ 0 → ⊥) → r ≡ record_at image d.here → Bounded image r → Here image d r
+  here_read (Some p) n e w = (n, sym e, w)
+  here_read None n e w = inr (sym e)
 
-  pub ahead_next : (p : Place) → (d.next ≡ 0 → ⊥) → record_at image d.here ≡ Located p → Within image p → Ahead image d (Seen (spot_at d.next d.here p))
+  pub ahead_next : (p : Place) → (d.next ≡ 0 → ⊥) → record_at image d.here ≡ Some p → Within image p → Ahead image d (Some (spot_at d.next d.here p))
   unfolding turn past_zero pick
   ahead_next p n h w = λ t o.
       let x = spotted image t d.next d.here o.ahead p o.near h w in

@@ -6,11 +6,11 @@
 --   search_twice, search_zero   at the index: for the second time, and for the first
 --   search_lost                 a track has a first record, so that one is found there
 --   examines_equal, examines_unequal     a search by how it compares
+use Rattle.std.specs.Prelude.{Some, None}
 use Prim.Native.Nat.{ℕ, ◌+◌, ◌*◌, ◌/◌, ◌%◌, ◌<◌, ◌≤◌}
 use native.Mathlib.Omega.{arith}
 use mathlib.Core.Path.{◌≡◌, refl, ap, sym, ◌∙◌}
 use mathlib.Core.Bool.{Bool, true, false, ◌&&◌}
-use mathlib.Core.Option.{none}
 use mathlib.Core.List.{List, [], ◌∷◌}
 use lib.Dec.{eqb}
 use lib.ListN.{length}
@@ -21,7 +21,6 @@ use Rattle.base.proofs.Choice.{split}
 use Rattle.address.specs.declared.Address.{Address}
 use Rattle.address.specs.Order.{same}
 use Rattle.pack.specs.declared.Place.{Place}
-use Rattle.pack.specs.declared.RecordAt.TheVariants.{Located, NoRecord}
 use Rattle.pack.specs.Pack.{Track, pack_of, track_in}
 use Rattle.pack.specs.Places.{record_at, record_from, Within}
 use Rattle.drive.specs.Drive as Abstract
@@ -29,7 +28,6 @@ use Rattle.drive.specs.Drive.{turn, passes_index, address_bytes, identifier, sam
 use Rattle.drive.specs.Step as Step
 use Rattle.position.specs.declared.Drive.{Drive}
 use Rattle.position.specs.declared.Spot.{Spot}
-use Rattle.position.specs.declared.Coming.TheVariants.{Area, Round}
 use Rattle.position.specs.declared.Examined.TheVariants.{Equal, Unequal}
 use Rattle.position.specs.Standing.{drive_of, OnTrack, Standing, Examines}
 use Rattle.position.specs.Spots.{Spotted, names, ExaminesAt, Comes}
@@ -78,7 +76,7 @@ module _ (a : Address) (r : ℕ) (p : Place) where
 -- ---- what is examined
 
 module _ (image : List ℕ) (d : Drive) where
-  pub search_off : track_in (pack_of image) d.at ≡ none → Comes image d Round
+  pub search_off : track_in (pack_of image) d.at ≡ None → Comes image d None
   unfolding Step.plan_search opt
   search_off h = λ g l c st. rw h
 
@@ -88,20 +86,20 @@ module _ (image : List ℕ) (d : Drive) where
     unfolding Step.plan_search Step.examine Step.passes_now opt pick
     examines_at x n s e f h = λ l c st g. rw (o.there, e, f, le-ltb 1 n h, s.is)
 
-    pub search_here : (p : Place) → d.passes ≤ 1 → record_at image d.here ≡ Located p → Within image p → Comes image d (Area (spot_at d.next d.here p) d.passes)
+    pub search_here : (p : Place) → d.passes ≤ 1 → record_at image d.here ≡ Some p → Within image p → Comes image d (Some (spot_at d.next d.here p, d.passes))
     unfolding turn passes_index pick
     search_here p few h w =
         let s = spotted image t d.next d.here o.ahead p o.near h w in
         let i = lt-ltb d.next (length t.records) s.inside in
         ((t, o, s), examines_at (spot_at d.next d.here p) d.passes s (rw i) (rw i) few, few)
 
-    module _ (h : record_at image d.here ≡ NoRecord) where
-      pub search_twice : d.passes ≡ 1 → Comes image d Round
+    module _ (h : record_at image d.here ≡ None) where
+      pub search_twice : d.passes ≡ 1 → Comes image d None
       unfolding Step.plan_search Step.examine Step.passes_now passes_index opt pick
       search_twice e = λ g l c st. rw (o.there, le-ltb _ _ (ended image t d.next d.here o.ahead h), e)
 
       module _ (few : d.passes ≤ 1) (e : d.passes ≡ 1 → ⊥) where
-        pub search_zero : (p : Place) → record_at image d.records ≡ Located p → Within image p → Comes image d (Area (spot_at 0 d.records p) 1)
+        pub search_zero : (p : Place) → record_at image d.records ≡ Some p → Within image p → Comes image d (Some (spot_at 0 d.records p, 1))
         unfolding turn passes_index pick
         search_zero p g w =
             let s = spotted image t 0 d.records o.first p (omega arith) g w in
@@ -109,7 +107,7 @@ module _ (image : List ℕ) (d : Drive) where
             let none_yet : d.passes ≡ 0 = omega arith in
             ((t, o, s), examines_at (spot_at 0 d.records p) 1 s (rw i) (rw (i, none_yet)) (omega arith), omega arith)
 
-    pub search_lost : {P : Type 0} → Standing image d → record_at image d.records ≡ NoRecord → P
+    pub search_lost : {P : Type 0} → Standing image d → record_at image d.records ≡ None → P
     search_lost s h =
         let a = ended image t 0 d.records o.first h in
         let b = begun s.sound d.at t o.there in

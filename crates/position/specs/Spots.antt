@@ -1,11 +1,9 @@
 -- Records of the drive's track, as the code looks them up. Nothing here is needed to read what the methods promise their callers.
-use Rattle.std.specs.Prelude.{ℕ, ◌+◌, ◌<◌, ◌≤◌, ◌≡◌, Bool, true, ◌&&◌, ◌⊎◌, List, eqb, length, get_or}
+use Rattle.std.specs.Prelude.{ℕ, ◌+◌, ◌<◌, ◌≤◌, ◌≡◌, Bool, true, ◌&&◌, ◌⊎◌, List, eqb, length, get_or, Option, Some, None}
 use Rattle.base.specs.Choice.{pick}
 use Rattle.address.specs.declared.Address.{Address}
 use Rattle.address.specs.Order.{same}
 use Rattle.pack.specs.declared.Place.{Place}
-use Rattle.pack.specs.declared.RecordAt.{RecordAt}
-use Rattle.pack.specs.declared.RecordAt.TheVariants.{Located, NoRecord}
 use Rattle.pack.specs.Pack.{Track, pack_of}
 use Rattle.pack.specs.Places.{record_at, record_from, Within}
 use Rattle.channel.specs.declared.Ccw.{Ccw}
@@ -15,10 +13,6 @@ use Rattle.drive.specs.Drive.{turn, past_zero, moved_past, identifier, no_record
 use Rattle.drive.specs.Step.{done, plan_search}
 use Rattle.position.specs.declared.Drive.{Drive}
 use Rattle.position.specs.declared.Spot.{Spot}
-use Rattle.position.specs.declared.Sighted.{Sighted}
-use Rattle.position.specs.declared.Sighted.TheVariants.{Seen, Unseen}
-use Rattle.position.specs.declared.Coming.{Coming}
-use Rattle.position.specs.declared.Coming.TheVariants.{Area, Round}
 use Rattle.position.specs.declared.Examined.TheVariants.{Passed}
 use Rattle.position.specs.Standing.{drive_of, StandsAt, OnTrack, Examines}
 
@@ -31,7 +25,7 @@ pub record Spotted (image : List ℕ) (t : Track) (x : Spot) : Type 0 where
   pub near : x.place ≤ x.start
   pub far : x.start < x.parts.next
   pub bounds : Within image x.parts
-  pub found : record_at image x.start ≡ Located x.parts
+  pub found : record_at image x.start ≡ Some x.parts
 
 -- a record of the drive's track
 abbrev pub Spots : List ℕ → Drive → Spot → Type 0
@@ -51,26 +45,26 @@ ExaminesAt image d x n =
     (done l c (drive_of d) st (next l) (moved_past (drive_of d) x.place true n))
 
 -- the count area that comes next, with the index passes up to it; or no search finds a record
-abbrev pub Comes : List ℕ → Drive → Coming → Type 0
-Comes image d (Area x n) = Spots image d x × ExaminesAt image d x n × (n ≤ 1)
-Comes image d Round = (g : List ℕ) → Examines image d g Passed
+abbrev pub Comes : List ℕ → Drive → Option (Spot × ℕ) → Type 0
+Comes image d (Some (x, n)) = Spots image d x × ExaminesAt image d x n × (n ≤ 1)
+Comes image d None = (g : List ℕ) → Examines image d g Passed
 
 -- ---- for a read
 
 -- what there is at a place of the drive's track, which the track tells
-abbrev pub At : List ℕ → Drive → (Track → ℕ) → Sighted → Type 0
-At image d n (Seen x) = (t : Track) → OnTrack image d t → Spotted image t x × (x.place ≡ n t)
-At image d n Unseen = (t : Track) → OnTrack image d t → length t.records ≤ n t
+abbrev pub At : List ℕ → Drive → (Track → ℕ) → Option Spot → Type 0
+At image d n (Some x) = (t : Track) → OnTrack image d t → Spotted image t x × (x.place ≡ n t)
+At image d n None = (t : Track) → OnTrack image d t → length t.records ≤ n t
 
 -- the record behind R0
-abbrev pub Second : List ℕ → Drive → Sighted → Type 0
+abbrev pub Second : List ℕ → Drive → Option Spot → Type 0
 Second image d r = At image d (λ t. 1) r
 
 -- the record where the drive stands, unless it is R0
-abbrev pub Here : List ℕ → Drive → RecordAt → Type 0
-Here image d (Located p) = (d.next ≡ 0 → ⊥) × (record_at image d.here ≡ Located p) × Within image p
-Here image d NoRecord = (d.next ≡ 0) ⊎ (record_at image d.here ≡ NoRecord)
+abbrev pub Here : List ℕ → Drive → Option Place → Type 0
+Here image d (Some p) = (d.next ≡ 0 → ⊥) × (record_at image d.here ≡ Some p) × Within image p
+Here image d None = (d.next ≡ 0) ⊎ (record_at image d.here ≡ None)
 
 -- the next record other than R0
-abbrev pub Ahead : List ℕ → Drive → Sighted → Type 0
+abbrev pub Ahead : List ℕ → Drive → Option Spot → Type 0
 Ahead image d r = At image d (λ t. past_zero (turn (length t.records) d.next)) r

@@ -2,17 +2,14 @@
 // reads go on from where the drive stands.
 #![tactic(auto)]
 
-ghost use Rattle.std.specs.Prelude.{◌≡◌, true, false, ◌&&◌, [], ◌∷◌, ◌<◌, ◌≤◌};
-ghost use Rattle.pack.specs.declared.RecordAt.TheVariants.{NoRecord};
+ghost use Rattle.std.specs.Prelude.{◌≡◌, true, false, ◌&&◌, [], ◌∷◌, ◌<◌, ◌≤◌, Some, None};
 ghost use Rattle.pack.specs.Places.{record_at, TrackFound};
-ghost use Rattle.drive.specs.declared.FileMask.TheVariants as Masks;
 ghost use Rattle.drive.specs.Drive as Abstract;
 ghost use Rattle.position.specs.Standing.{drive_of, Sound, Standing, Examines, ExaminedStands, TakesFor, TakenStands};
 ghost use Rattle.position.specs.Spots.{Spots, Comes, Second, Here, Ahead};
 
 use address::Address;
-use drive::FileMask;
-use pack::{Place, RecordAt, TrackAt};
+use pack::Place;
 
 // `found` says whether the image has the track. Then its records begin at `records`, the count area that comes next has place
 // `next` on the track and stands at `here`, and the one that was just passed stands at `behind`.
@@ -26,7 +23,7 @@ pub struct Drive {
     pub passes: usize,
     pub found: bool,
     pub passed: bool,
-    pub mask: FileMask,
+    pub mask: Option<u8>,
 }
 
 // What a search comes to: the drive behind an equal or an unequal count area, or no record found.
@@ -37,13 +34,6 @@ pub enum Examined {
     Passed,
 }
 
-// What a read comes to: the record's place and the drive behind it, or no record found.
-#[derive(Clone, Copy)]
-pub enum Taken {
-    Takes(Place, Drive),
-    Nothing,
-}
-
 // A record of the drive's track: its place on the track, where its field starts in the image, and where its parts lie.
 #[derive(Clone, Copy)]
 struct Spot {
@@ -52,26 +42,11 @@ struct Spot {
     parts: Place,
 }
 
-// What is looked for on the track: a record, or none.
-#[derive(Clone, Copy)]
-enum Sighted {
-    Seen(Spot),
-    Unseen,
-}
-
-// What comes next to a search: a count area, with the index passes up to it, or the index for the second time.
-#[derive(Clone, Copy)]
-enum Coming {
-    Area(Spot, usize),
-    Round,
-}
-
 // Whether a record has the address and the number.
 fn names(p: Place, a: Address, r: usize) -> bool
     ensures { result ≡ Rattle.position.specs.Spots.names a r p }
 {
-    let at = p.at;
-    if !at.same(a) {
+    if p.at != a {
         return false;
     }
     p.r == r
@@ -79,7 +54,7 @@ fn names(p: Place, a: Address, r: usize) -> bool
 
 impl Drive {
     // At the index of a track, by where a search for the track ends.
-    pub fn at_found(image: &[u8], a: Address, track: TrackAt, mask: FileMask) -> Drive
+    pub fn at_found(image: &[u8], a: Address, track: Option<usize>, mask: Option<u8>) -> Drive
         requires sound { Sound image.now }
         requires cylinder_bound { (a.cylinder < 65536) × (a.head < 65536) }
         requires track_found { TrackFound image.now a track }
@@ -87,7 +62,7 @@ impl Drive {
         ensures standing { Standing image.now result }
     {
         match track {
-            TrackAt::Records(at) => Drive {
+            Some(at) => Drive {
                 at: a,
                 found: true,
                 records: at,
@@ -98,7 +73,7 @@ impl Drive {
                 passes: 0,
                 mask: mask,
             },
-            TrackAt::NoTrack => Drive {
+            None => Drive {
                 at: a,
                 found: false,
                 records: 0,
@@ -113,7 +88,7 @@ impl Drive {
     }
 
     // The same, with that search.
-    fn at_track(image: &[u8], a: Address, mask: FileMask) -> Drive
+    fn at_track(image: &[u8], a: Address, mask: Option<u8>) -> Drive
         requires sound { Sound image.now }
         requires cylinder_bound { (a.cylinder < 65536) × (a.head < 65536) }
         ensures value { drive_of result ≡ Abstract.at_index a mask }
@@ -134,7 +109,7 @@ impl Drive {
                 cylinder: 0,
                 head: 0,
             },
-            FileMask::Unset,
+            None,
         )
     }
 
@@ -145,28 +120,23 @@ impl Drive {
         ensures value { drive_of result ≡ Abstract.at_index a self.mask }
         ensures stands { Standing image.now result }
     {
-        let mask = self.mask;
-        Drive::at_track(image, a, mask)
+        Drive::at_track(image, a, self.mask)
     }
 
     // At the index of the same track, with a mask.
-    fn turned(self, image: &[u8], mask: FileMask) -> Drive
+    fn turned(self, image: &[u8], mask: Option<u8>) -> Drive
         requires { Standing image.now self }
         ensures value { drive_of result ≡ Abstract.at_index self.at mask }
         ensures standing { Standing image.now result }
     {
-        let at = self.at;
-        let records = self.records;
         Drive {
-            at: at,
-            found: self.found,
-            records: records,
             next: 0,
-            here: records,
-            behind: records,
+            here: self.records,
+            behind: self.records,
             passed: false,
             passes: 0,
-            mask: mask,
+            mask,
+            ..self
         }
     }
 
@@ -176,17 +146,16 @@ impl Drive {
         ensures value { drive_of result ≡ Abstract.at_index self.at self.mask }
         ensures standing { Standing image.now result }
     {
-        let mask = self.mask;
-        self.turned(image, mask)
+        self.turned(image, self.mask)
     }
 
     // At the index with a file mask set.
     pub fn masked(self, image: &[u8], m: u8) -> Drive
         requires { Standing image.now self }
-        ensures value { drive_of result ≡ Abstract.at_index self.at (Masks.Set m) }
+        ensures value { drive_of result ≡ Abstract.at_index self.at (Some m) }
         ensures standing { Standing image.now result }
     {
-        self.turned(image, FileMask::Set(m))
+        self.turned(image, Some(m))
     }
 
     // Behind the count area (`passed`) or the whole of a record.
@@ -197,68 +166,55 @@ impl Drive {
         ensures value { drive_of result ≡ Abstract.moved_past (drive_of self) x.place passed passes }
         ensures stands { Standing image.now result }
     {
-        let at = self.at;
-        let mask = self.mask;
-        let parts = x.parts;
         Drive {
-            at: at,
-            found: self.found,
-            records: self.records,
             next: x.place + 1,
-            here: parts.next,
+            here: x.parts.next,
             behind: x.start,
-            passed: passed,
-            passes: passes,
-            mask: mask,
+            passed,
+            passes,
+            ..self
         }
     }
 
     // ---- searches
 
     // The count area that comes next: behind the last record the index, and then R0 again.
-    fn coming(self, image: &[u8]) -> Coming
+    fn coming(self, image: &[u8]) -> Option<(Spot, usize)>
         requires { Standing image.now self }
         ensures { Comes image.now self result }
     {
         if !self.found {
-            return Coming::Round;
+            return None;
         }
-        let here = self.here;
-        match pack::record_at(image, here) {
-            RecordAt::Located(p) => Coming::Area(
-                Spot {
-                    place: self.next,
-                    start: here,
-                    parts: p,
-                },
-                self.passes,
-            ),
-            RecordAt::NoRecord => self.round(image),
-        }
+        let Some(parts) = pack::record_at(image, self.here) else {
+            return self.round(image);
+        };
+        let next = Spot {
+            place: self.next,
+            start: self.here,
+            parts,
+        };
+        Some((next, self.passes))
     }
 
     // The same at the index.
-    fn round(self, image: &[u8]) -> Coming
+    fn round(self, image: &[u8]) -> Option<(Spot, usize)>
         requires standing { Standing image.now self }
         requires found_value { self.found ≡ true }
-        requires here_value { record_at image.now self.here ≡ NoRecord }
+        requires here_value { record_at image.now self.here ≡ None }
         ensures { Comes image.now self result }
     {
         if self.passes == 1 {
-            return Coming::Round;
+            return None;
         }
-        let first = self.records;
-        let RecordAt::Located(p) = pack::record_at(image, first) else {
-            return Coming::Round;
+        let parts = pack::record_at(image, self.records)?;
+        let start = self.records;
+        let zero = Spot {
+            place: 0,
+            start,
+            parts,
         };
-        Coming::Area(
-            Spot {
-                place: 0,
-                start: first,
-                parts: p,
-            },
-            1,
-        )
+        Some((zero, 1))
     }
 
     // One search ID equal for the five bytes of its argument.
@@ -276,15 +232,14 @@ impl Drive {
         ensures examines { Examines image.now self (b0 ∷ b1 ∷ b2 ∷ b3 ∷ b4 ∷ []) result }
         ensures examined_stands { ExaminedStands image.now result }
     {
-        let Coming::Area(x, passes) = self.coming(image) else {
+        let Some((x, passes)) = self.coming(image) else {
             return Examined::Passed;
         };
         let a = Address {
             cylinder: b0 * 256 + b1,
             head: b2 * 256 + b3,
         };
-        let parts = x.parts;
-        if names(parts, a, b4) {
+        if names(x.parts, a, b4) {
             return Examined::Equal(self.stepped(image, x, true, 0));
         }
         Examined::Unequal(self.stepped(image, x, true, passes))
@@ -293,83 +248,70 @@ impl Drive {
     // ---- reads
 
     // The record behind R0.
-    fn second(self, image: &[u8]) -> Sighted
+    fn second(self, image: &[u8]) -> Option<Spot>
         ensures { Second image.now self result }
     {
-        let first = self.records;
-        let RecordAt::Located(zero) = pack::record_at(image, first) else {
-            return Sighted::Unseen;
-        };
+        let zero = pack::record_at(image, self.records)?;
         let start = zero.next;
-        let RecordAt::Located(p) = pack::record_at(image, start) else {
-            return Sighted::Unseen;
-        };
-        Sighted::Seen(Spot {
+        let parts = pack::record_at(image, start)?;
+        Some(Spot {
             place: 1,
-            start: start,
-            parts: p,
+            start,
+            parts,
         })
     }
 
     // The record where the drive stands, unless it is R0.
-    fn here_unless_zero(self, image: &[u8]) -> RecordAt
+    fn here_unless_zero(self, image: &[u8]) -> Option<Place>
         ensures { Here image.now self result }
     {
         if self.next == 0 {
-            return RecordAt::NoRecord;
+            return None;
         }
-        let here = self.here;
-        pack::record_at(image, here)
+        pack::record_at(image, self.here)
     }
 
     // The next record other than R0.
-    fn ahead(self, image: &[u8]) -> Sighted
+    fn ahead(self, image: &[u8]) -> Option<Spot>
         ensures { Ahead image.now self result }
     {
-        let RecordAt::Located(p) = self.here_unless_zero(image) else {
+        let Some(parts) = self.here_unless_zero(image) else {
             return self.second(image);
         };
-        let here = self.here;
-        Sighted::Seen(Spot {
+        Some(Spot {
             place: self.next,
-            start: here,
-            parts: p,
+            start: self.here,
+            parts,
         })
     }
 
     // A read of the next record other than R0.
-    fn take_ahead(self, image: &[u8], just: bool, datas: bool) -> Taken
+    fn take_ahead(self, image: &[u8], just: bool, datas: bool) -> Option<(Place, Drive)>
         requires standing { Standing image.now self }
         requires found_value { self.found ≡ true }
         requires passed_value { (just && self.passed) ≡ false }
         ensures takes_for { TakesFor image.now self just datas result }
         ensures taken_stands { TakenStands image.now result }
     {
-        let Sighted::Seen(x) = self.ahead(image) else {
-            return Taken::Nothing;
-        };
-        let parts = x.parts;
-        Taken::Takes(parts, self.stepped(image, x, !datas, 0))
+        let x = self.ahead(image)?;
+        Some((x.parts, self.stepped(image, x, !datas, 0)))
     }
 
     // A read of the record whose count area was just passed.
-    fn take_passed(self, image: &[u8], datas: bool) -> Taken
+    fn take_passed(self, image: &[u8], datas: bool) -> Option<(Place, Drive)>
         requires standing { Standing image.now self }
         requires found_value { self.found ≡ true }
         requires passed_value { self.passed ≡ true }
         ensures takes_for { TakesFor image.now self true datas result }
         ensures taken_stands { TakenStands image.now result }
     {
-        let behind = self.behind;
-        let RecordAt::Located(p) = pack::record_at(image, behind) else {
-            return Taken::Nothing;
-        };
+        let parts = pack::record_at(image, self.behind)?;
         let x = Spot {
             place: self.next - 1,
-            start: behind,
-            parts: p,
+            start: self.behind,
+            parts,
         };
-        Taken::Takes(p, self.stepped(image, x, !datas, 0))
+        Some((parts, self.stepped(image, x, !datas, 0)))
     }
 
     // Whether a read takes the record whose count area was just passed.
@@ -384,13 +326,13 @@ impl Drive {
 
     // One read: `just` of 06 and 0E, which take the record whose count area was just passed; `datas` of reads that take the data,
     // behind which no count area was just passed.
-    pub fn take(self, image: &[u8], just: bool, datas: bool) -> Taken
+    pub fn take(self, image: &[u8], just: bool, datas: bool) -> Option<(Place, Drive)>
         requires { Standing image.now self }
         ensures takes_for { TakesFor image.now self just datas result }
         ensures taken_stands { TakenStands image.now result }
     {
         if !self.found {
-            return Taken::Nothing;
+            return None;
         }
         if self.takes_passed(just) {
             return self.take_passed(image, datas);

@@ -1,7 +1,6 @@
 -- DEMAND 3 of the program: the text that `reading` prints for an input (Rattle.reading_session.specs.Session) keeps demand 3
 -- (Rattle.demand_three.specs.Demand), for every reading that document 01 lets begin.
-use Rattle.std.specs.Prelude.{ℕ, ◌≡◌, List, ◌++◌, replicate}
-use Rattle.std.proofs.Math.Option.{some}
+use Rattle.std.specs.Prelude.{ℕ, ◌≡◌, List, ◌++◌, replicate, Some}
 use Rattle.address.specs.declared.Model.TheVariants.{One}
 use Rattle.drive.specs.Step.{End}
 use Rattle.demand_three.specs.Demand.{Lending, Begins, Provided, end_of, LikeFaultless}
@@ -14,7 +13,7 @@ use Rattle.reading_session.specs.Session.{printed}
 -- The program lends g for the input s: "fields 30 chain, 31 arguments, 32 extent, then faults, then image", "with 4,096 zero bytes of storage
 -- and limit 4,096".
 pub record InputOf (g : Lending) (s : List ℕ) : Type 0 where
-  pub parts : parts_of s ≡ some (record { chain = g.chain; arguments = g.arguments; extent = g.extent; faults = g.fault_list; image = g.image })
+  pub parts : parts_of s ≡ Some (record { chain = g.chain; arguments = g.arguments; extent = g.extent; faults = g.fault_list; image = g.image })
   pub storage : g.storage ≡ replicate 4096 0
   pub limit : g.limit ≡ 4096
   -- "The program `reading` stays with model 1"

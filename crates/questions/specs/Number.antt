@@ -1,9 +1,7 @@
 -- The number that document 01 gives each question under "The questions, in number order".
-use Rattle.std.specs.Prelude.{ℕ}
+use Rattle.std.specs.Prelude.{ℕ, Result, Ok, Err}
 use Rattle.questions.specs.declared.Question.{Question}
 use Rattle.questions.specs.declared.Question.TheVariants.{Areas, Image, Faults, Report, Extent, Row, Action, Format, Agreement}
-use Rattle.questions.specs.declared.Checked.{Checked}
-use Rattle.questions.specs.declared.Checked.TheVariants.{Accepted, Refused}
 
 -- "A no answers its number and changes nothing."
 abbrev pub number_of : Question → ℕ
@@ -35,6 +33,6 @@ abbrev pub stopped_return : ℕ
 stopped_return = 65
 
 -- A check's answer as a number: 0 accepted, else the refusing question's.
-abbrev pub answer_of : Checked → ℕ
-answer_of Accepted = 0
-answer_of (Refused q) = number_of q
+abbrev pub answer_of : Result Unit Question → ℕ
+answer_of (Ok tt) = 0
+answer_of (Err q) = number_of q

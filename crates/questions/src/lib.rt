@@ -6,7 +6,7 @@ ghost use Rattle.questions.specs.Areas;
 ghost use Rattle.questions.specs.Number.{number_of, answer_of};
 
 // What a refusal names: the first question whose answer is no.
-#[derive(Clone, Copy)]
+#[derive(Clone, Copy, PartialEq, Eq)]
 pub enum Question {
     Areas,
     Image,
@@ -27,37 +27,32 @@ pub const LIMIT: u8 = 64;
 
 pub const STOPPED: u8 = 65;
 
-// What a check answers.
-#[derive(Clone, Copy)]
-pub enum Checked {
-    Accepted,
-    Refused(Question),
-}
-
 // The number of a question.
-pub fn number(q: Question) -> u8
-    ensures { result ≡ number_of q }
-{
-    match q {
-        Question::Areas => 1,
-        Question::Image => 2,
-        Question::Faults => 3,
-        Question::Report => 4,
-        Question::Extent => 5,
-        Question::Row => 6,
-        Question::Action => 7,
-        Question::Format => 8,
-        Question::Agreement => 9,
+impl From<Question> for u8 {
+    ghost from_gives = { λ q n. n ≡ number_of q };
+
+    fn from(q: Question) -> u8 {
+        match q {
+            Question::Areas => 1,
+            Question::Image => 2,
+            Question::Faults => 3,
+            Question::Report => 4,
+            Question::Extent => 5,
+            Question::Row => 6,
+            Question::Action => 7,
+            Question::Format => 8,
+            Question::Agreement => 9,
+        }
     }
 }
 
 // A check's answer as a number: 0 accepted, else the refusing question's.
-pub fn answer(c: Checked) -> u8
+pub fn answer(c: Result<(), Question>) -> u8
     ensures { result ≡ answer_of c }
 {
     match c {
-        Checked::Accepted => 0,
-        Checked::Refused(q) => number(q),
+        Ok(()) => 0,
+        Err(q) => u8::from(q),
     }
 }
 

@@ -2,10 +2,10 @@
 --   moved_low      a CSW can show the CCW that a read ended with, and its count left
 --   ended_so       what a read comes to, from what its end was settled to
 --   joined .. put_back   bytes at the front of others
+use Rattle.std.specs.Prelude.{Option, Result}
 use Prim.Native.Nat.{ℕ, ◌+◌, ◌-◌, ◌≤◌}
 use native.Mathlib.Omega.{arith}
 use mathlib.Core.Path.{◌≡◌, refl, ap, sym, subst, ◌∙◌}
-use mathlib.Core.Option.{Option}
 use mathlib.Core.List.{List, [], ◌++◌}
 use lib.ListN.{length, take, drop, length-append, length-take, length-drop}
 use lib.Seq.{take-append_seam}
@@ -32,12 +32,12 @@ unfolding address_of
 inside_low chain program h (Chain a) i = omega arith
 inside_low chain program h (Restart a) i = omega arith
 
-shown_low : (m : Moved) (after bs st : List ℕ) (w : Walk) → WalkShown Low w → CountLow m → left m after ≡ carried w bs st → LowMoved m
+shown_low : (m : Result Moved Location) (after bs st : List ℕ) (w : Walk) → WalkShown Low w → CountLow m → left m after ≡ carried w bs st → LowMoved m
 unfolding carried
 shown_low m after bs st (walked ps l c n over) h k e = let q = ap (λ (x : Left). x.moved) e in subst LowMoved (sym q) (h, subst CountLow q k)
 shown_low m after bs st (checked ps l) h k e = subst LowMoved (sym (ap (λ (x : Left). x.moved) e)) h
 
-module _ (chain program : List ℕ) (l : Location) (c : Ccw) (bs st after : List ℕ) (m : Moved) (t : Transfers chain program l c bs st (left m after)) where
+module _ (chain program : List ℕ) (l : Location) (c : Ccw) (bs st after : List ℕ) (m : Result Moved Location) (t : Transfers chain program l c bs st (left m after)) where
   pub moved_low : CountLow m → Ready chain program st l c → LowMoved m
   unfolding transferred
   moved_low k h =

@@ -4,11 +4,11 @@
 --   bytes_few        there are few
 --   place_low        its track and number fit their bytes
 --   faults_inside    a fault that names it lies in the bytes of a read that takes its data
+use Rattle.std.specs.Prelude.{Some}
 use Prim.Native.Nat.{ℕ, ◌+◌, ◌-◌, ◌≤◌}
 use native.Mathlib.Omega.{arith}
 use mathlib.Core.Path.{◌≡◌, ap, ap₂, sym, ◌∙◌}
 use mathlib.Core.Bool.{true, ◌&&◌}
-use mathlib.Core.Option.{some}
 use mathlib.Core.List.{List, [], ◌++◌}
 use lib.ListN.{length, length-append}
 use Rattle.base.specs.Choice.{opt}
@@ -41,7 +41,7 @@ body_inside k y h =
     let u = included k.counts (count_area y) ++ included k.keys y.key in
     rw h (let n = length-append u y.body in omega arith)
 
-in_track : (ts : List Track) (a d : Address) (r : ℕ) (t : Track) (z : Record) → a ≡ d → track_in ts d ≡ some t → numbered t.records r ≡ some z → record_in ts a r ≡ some z
+in_track : (ts : List Track) (a d : Address) (r : ℕ) (t : Track) (z : Record) → a ≡ d → track_in ts d ≡ Some t → numbered t.records r ≡ Some z → record_in ts a r ≡ Some z
 unfolding record_in opt
 in_track ts a d r t z e h g = rw (e, h) g
 
@@ -65,7 +65,7 @@ module _ (image : List ℕ) (x : Place) (whole : Formed image) (lies : Lies imag
   record_tells = rw b.is at (record_says b.track.at b.track.records records_sound b.place no_record b.inside)
 
   -- the list's fault for it is one of this record
-  there : record_in (pack_of image) y.at y.r ≡ some y
+  there : record_in (pack_of image) y.at y.r ≡ Some y
   there =
       in_track (pack_of image) y.at b.address y.r b.track y (record_tells.at_track ∙ on_track) b.there
       (rw b.is at (number_finds b.track.at b.track.records records_sound b.place no_record b.inside))
@@ -95,13 +95,13 @@ module _ (image : List ℕ) (x : Place) (whole : Formed image) (lies : Lies imag
         let q = length_part image m n (omega (arith, i.0, i.1)) in
         omega arith
 
-  named_inside : (fs : List Fault) (f : Fault) (k : Read) → sound_faults (pack_of image) fs ≡ true → k.datas ≡ true → naming fs x.at x.r ≡ some f
+  named_inside : (fs : List Fault) (f : Fault) (k : Read) → sound_faults (pack_of image) fs ≡ true → k.datas ≡ true → naming fs x.at x.r ≡ Some f
       → f.displacement ≤ length (bytes_of k y)
   unfolding record_from
   named_inside fs f k sound h e =
       let named = named_sound (pack_of image) fs x.at x.r f sound e in
       let s : Says (pack_of image) f = says (pack_of image) f named.2 in
-      let same : some y ≡ some s.taken = sym there ∙ ap₂ (record_in (pack_of image)) (sym named.0) (sym named.1) ∙ s.there in
+      let same : Some y ≡ Some s.taken = sym there ∙ ap₂ (record_in (pack_of image)) (sym named.0) (sym named.1) ∙ s.there in
       let is : y ≡ s.taken = cc in
       let n : length y.body ≡ length s.taken.body = ap (λ (q : Record). length q.body) is in
       let i = s.inside in

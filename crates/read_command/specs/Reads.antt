@@ -1,14 +1,10 @@
 -- Read commands, as the code does them: what holds before a read, and what it comes to.
-use Rattle.std.specs.Prelude.{ℕ, ◌-◌, ◌≤◌, ◌≡◌, true, List, length}
-use Rattle.std.proofs.Math.Option.{some}
+use Rattle.std.specs.Prelude.{ℕ, ◌-◌, ◌≤◌, ◌≡◌, true, List, length, Option, Some, None}
 use Rattle.pack.specs.declared.Place.{Place}
 use Rattle.pack.specs.Pack.{Record, pack_of}
-use Rattle.pack.specs.declared.RecordAt.TheVariants.{Located}
 use Rattle.pack.specs.Places.{record_at, Within}
 use Rattle.image.specs.Image.{well_formed}
 use Rattle.faults.specs.declared.Listed.{Listed}
-use Rattle.faults.specs.declared.FaultAt.{FaultAt}
-use Rattle.faults.specs.declared.FaultAt.TheVariants.{Found, NoFault}
 use Rattle.faults.specs.Faults.{Fault, faults_at, naming, sound_faults}
 use Rattle.faults.specs.FaultAt.{fault_from, FaultFound}
 use Rattle.channel.specs.declared.Ccw.{Ccw}
@@ -35,7 +31,7 @@ Formed image = (last : ℕ) × (well_formed last image ≡ true)
 pub record Begun (chain program image faults : List ℕ) : Type 0 where
   pub short : Short chain program
   pub whole : Formed image
-  pub listed : (fs : List Fault) × (faults_at faults 0 ≡ some fs) × (sound_faults (pack_of image) fs ≡ true)
+  pub listed : (fs : List Fault) × (faults_at faults 0 ≡ Some fs) × (sound_faults (pack_of image) fs ≡ true)
 
 -- a read may use it
 pub record Ready (chain program st : List ℕ) (l : Location) (c : Ccw) : Type 0 where
@@ -54,7 +50,7 @@ Ends chain program l c n st f r after =
 -- what a plan comes to
 abbrev pub Carries : (chain program faults : List ℕ) → List ℕ → (Lent → Step.Plan) → Answer → List ℕ → Type 0
 Carries chain program faults st plan r after =
-    (p : Lent) (fs : List Fault) → p.chain ≡ chain → p.program ≡ program → faults_at faults 0 ≡ some fs → Step.carry fs st (plan p) ≡ answer_of r after
+    (p : Lent) (fs : List Fault) → p.chain ≡ chain → p.program ≡ program → faults_at faults 0 ≡ Some fs → Step.carry fs st (plan p) ≡ answer_of r after
 
 -- bytes that end with the faulted data area of the record at a place
 abbrev pub ReadsFaulted : (chain program : List ℕ) → Location → Ccw → List ℕ → Place → Listed → Abstract.Drive → List ℕ → Answer → List ℕ → Type 0
@@ -64,18 +60,18 @@ ReadsFaulted chain program l c bs x f e st r after =
 -- where a record that the drive takes lies
 pub record Lies (image : List ℕ) (x : Place) : Type 0 where
   pub within : Within image x
-  pub found : (at : ℕ) × (record_at image at ≡ Located x)
+  pub found : (at : ℕ) × (record_at image at ≡ Some x)
   pub belongs : Belongs image x
 
 -- the fault of the data area that a read takes, if it takes one that has a fault
-abbrev pub FaultTaken : List ℕ → Read → Place → FaultAt → Type 0
-FaultTaken faults k x (Found f) = (k.datas ≡ true) × FaultFound faults 0 x.at x.r (Found f)
-FaultTaken faults k x NoFault = k.datas ≡ true → FaultFound faults 0 x.at x.r NoFault
+abbrev pub FaultTaken : List ℕ → Read → Place → Option Listed → Type 0
+FaultTaken faults k x (Some f) = (k.datas ≡ true) × FaultFound faults 0 x.at x.r (Some f)
+FaultTaken faults k x None = k.datas ≡ true → FaultFound faults 0 x.at x.r None
 
 -- a fault that names the record lies in the n bytes of a read that takes its data
 abbrev pub FaultsInside : List ℕ → Read → Place → ℕ → Type 0
 FaultsInside faults k x n =
-    (fs : List Fault) × (faults_at faults 0 ≡ some fs) × ((f : Fault) → k.datas ≡ true → naming fs x.at x.r ≡ some f → f.displacement ≤ n)
+    (fs : List Fault) × (faults_at faults 0 ≡ Some fs) × ((f : Fault) → k.datas ≡ true → naming fs x.at x.r ≡ Some f → f.displacement ≤ n)
 
 -- the plan of a read of a record, with the drive e behind it
 abbrev pub plan_of : Location → Ccw → Abstract.Drive → List ℕ → Read → Record → Abstract.Drive → Lent → Step.Plan

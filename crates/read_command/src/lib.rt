@@ -14,9 +14,9 @@ ghost use Rattle.read_command.specs.Reads.{Formed, Begun, Ready, Lies, FaultTake
 use channel::{Ccw, Location};
 use command::{Answer, Check};
 use drive::Read;
-use faults::{FaultAt, Listed};
+use faults::Listed;
 use pack::Place;
-use position::{Drive, Taken};
+use position::Drive;
 
 // A read without fault, with the drive behind it. It has one caller, so that the compiler builds it in there.
 fn plain(
@@ -113,11 +113,11 @@ fn takes_empty(k: Read, x: Place) -> bool
 }
 
 // The fault of the data area that a read takes.
-fn fault_taken(faults: &[u8], k: Read, x: Place) -> FaultAt
+fn fault_taken(faults: &[u8], k: Read, x: Place) -> Option<Listed>
     ensures { FaultTaken faults.now k x result }
 {
     if !k.datas {
-        return FaultAt::NoFault;
+        return None;
     }
     let a = x.at;
     faults::find_fault(faults, 0, a, x.r)
@@ -150,8 +150,8 @@ fn read_bytes(
         return empty(chain, program, l, c, bytes, e, storage);
     }
     match fault_taken(faults, k, x) {
-        FaultAt::NoFault => plain(chain, program, l, c, bytes, e, storage),
-        FaultAt::Found(f) => read_faulted(chain, program, l, c, bytes, x, f, e, storage),
+        None => plain(chain, program, l, c, bytes, e, storage),
+        Some(f) => read_faulted(chain, program, l, c, bytes, x, f, e, storage),
     }
 }
 
@@ -216,8 +216,8 @@ pub fn read_record(
     ensures kept { Kept image.now result }
 {
     match d.take(image, k.just, k.datas) {
-        Taken::Nothing => command::refuse(Check::NotFound, l, c, d),
-        Taken::Takes(x, e) => read_at(chain, program, image, faults, l, c, k, x, e, storage),
+        None => command::refuse(Check::NotFound, l, c, d),
+        Some((x, e)) => read_at(chain, program, image, faults, l, c, k, x, e, storage),
     }
 }
 

@@ -5,11 +5,11 @@
 --   faulted_checked, faulted_ended         one of a faulted data area
 --   cut_low                                the numbers of the cut fit a report
 --   through                                from the places that a walk found to what was carried
+use Rattle.std.specs.Prelude.{Option, Result, Ok, Err}
 use Prim.Native.Nat.{ℕ, ◌<◌}
 use native.Mathlib.Omega.{arith}
 use mathlib.Core.Path.{◌≡◌, ap, sym, subst, ◌∙◌}
 use mathlib.Core.Bool.{Bool, true, false}
-use mathlib.Core.Option.{Option}
 use mathlib.Core.List.{List}
 use Rattle.base.proofs.Choice.{pick_true, pick_false}
 use Rattle.pack.specs.declared.Place.{Place}
@@ -23,7 +23,6 @@ use Rattle.channel.specs.Ccw.{next}
 use Rattle.channel.specs.Store.{store}
 use Rattle.channel.specs.Walk.{Walk, walked, checked, incorrect_length}
 use Rattle.transfer.specs.declared.Moved.{Moved}
-use Rattle.transfer.specs.declared.Moved.TheVariants.{Ended, Checked}
 use Rattle.transfer.specs.Transfer.{Left, left, carried}
 use Rattle.drive.specs.Step as Step
 use Rattle.position.specs.declared.Drive.{Drive}
@@ -36,13 +35,13 @@ use Rattle.location.specs.Low.{Low, CswLow}
 use Rattle.command.specs.Answer.{answer_of, Answers, CutLow}
 use Rattle.read_end.specs.ReadEnd.{walk_of, LowMoved, FaultedLow, Settles, Excepts, CutsOff}
 
-pub checked_low : (m : Moved) (l : Location) → m ≡ Checked l → LowMoved m → Low l
+pub checked_low : (m : Result Moved Location) (l : Location) → m ≡ Err l → LowMoved m → Low l
 checked_low m l e h = subst LowMoved e h
 
-pub ended_low : (m : Moved) (l : Location) (c : Ccw) (n : ℕ) (over : Bool) → m ≡ Ended l c n over → LowMoved m → Low l
+pub ended_low : (m : Result Moved Location) (l : Location) (c : Ccw) (n : ℕ) (over : Bool) → m ≡ Ok (record { at = l; ccw = c; left = n; over = over }) → LowMoved m → Low l
 ended_low m l c n over e h = (subst LowMoved e h).0
 
-pub ended_left : (m : Moved) (l : Location) (c : Ccw) (n : ℕ) (over : Bool) → m ≡ Ended l c n over → LowMoved m → n < 0x10000
+pub ended_left : (m : Result Moved Location) (l : Location) (c : Ccw) (n : ℕ) (over : Bool) → m ≡ Ok (record { at = l; ccw = c; left = n; over = over }) → LowMoved m → n < 0x10000
 ended_left m l c n over e h = (subst LowMoved e h).1
 
 abbrev quiet : Csw → Drive → Answer
@@ -78,8 +77,8 @@ cut_low first p f n d over w s h =
       csw_low = h;
     }
 
-module _ (d : Drive) (m : Moved) (r : Answer) (l : Location) where
-  module _ (e : m ≡ Checked l) (h : Answers (Step.program_check l (drive_of d)) r) where
+module _ (d : Drive) (m : Result Moved Location) (r : Answer) (l : Location) where
+  module _ (e : m ≡ Err l) (h : Answers (Step.program_check l (drive_of d)) r) where
     pub settled_checked : Settles (drive_of d) m r
     unfolding Step.settled
     settled_checked = subst (λ q. Settles (drive_of d) q r) (sym e) (λ ps bs st. h (store ps bs st))
@@ -92,7 +91,7 @@ module _ (d : Drive) (m : Moved) (r : Answer) (l : Location) where
     unfolding Step.faulted
     faulted_checked first p f n = subst (λ q. CutsOff first p f n (drive_of d) q r) (sym e) (λ ps x bs st a b k. h (store ps (Step.arriving bs (fault_from f)) st))
 
-module _ (d : Drive) (m : Moved) (l : Location) (c : Ccw) (n : ℕ) (over : Bool) (e : m ≡ Ended l c n over) where
+module _ (d : Drive) (m : Result Moved Location) (l : Location) (c : Ccw) (n : ℕ) (over : Bool) (e : m ≡ Ok (record { at = l; ccw = c; left = n; over = over })) where
   pub settled_wrong : (w : Csw) → incorrect_length c n over ≡ true → w ≡ csw_at l 0x0c 0x40 n → Settles (drive_of d) m (quiet w d)
   unfolding Step.settled
   settled_wrong w h g = subst (λ q. Settles (drive_of d) q (quiet w d)) (sym e) (λ ps bs st. pick_true _ _ h ∙ ap (λ q. answer_of (quiet q d) (store ps bs st)) (sym g))
@@ -121,7 +120,7 @@ module _ (d : Drive) (m : Moved) (l : Location) (c : Ccw) (n : ℕ) (over : Bool
 
 -- ---- from a walk
 
-pub through : (f : Walk → Step.Answer) (m : Moved) (r : Answer) (after bs st : List ℕ)
+pub through : (f : Walk → Step.Answer) (m : Result Moved Location) (r : Answer) (after bs st : List ℕ)
     → ((ps : List (Option ℕ)) → f (walk_of ps m) ≡ answer_of r (store ps bs st)) → (w : Walk) → left m after ≡ carried w bs st → f w ≡ answer_of r after
 unfolding carried
 through f m r after bs st h (walked ps l c n over) e =

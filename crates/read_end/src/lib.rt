@@ -27,21 +27,23 @@ fn length_status(wrong: bool) -> u8
 }
 
 // A read without fault, with the drive behind it: incorrect length ends the chain.
-pub fn settled(m: Moved, d: Drive) -> Answer
+pub fn settled(m: Result<Moved, Location>, d: Drive) -> Answer
     requires { LowMoved m }
     ensures settles { Settles (drive_of d) m result }
     ensures kept_with { KeptWith d result }
 {
     match m {
-        Moved::Checked(l) => {
+        Err(l) => {
             return command::program_check(l, d);
         }
-        Moved::Ended {
-            at,
-            ccw,
-            left,
-            over,
-        } => {
+        Ok(
+            Moved {
+                at,
+                ccw,
+                left,
+                over,
+            },
+        ) => {
             if ccw.incorrect_length(left, over) {
                 let mask = d.mask;
                 return Answer::Ends(End {
@@ -56,21 +58,23 @@ pub fn settled(m: Moved, d: Drive) -> Answer
 }
 
 // A read of a data area of length 0: unit exception.
-pub fn excepted(m: Moved, d: Drive) -> Answer
+pub fn excepted(m: Result<Moved, Location>, d: Drive) -> Answer
     requires { LowMoved m }
     ensures excepts { Excepts (drive_of d) m result }
     ensures kept_always { KeptAlways result }
 {
     match m {
-        Moved::Checked(l) => {
+        Err(l) => {
             return command::program_check(l, d);
         }
-        Moved::Ended {
-            at,
-            ccw,
-            left,
-            over,
-        } => {
+        Ok(
+            Moved {
+                at,
+                ccw,
+                left,
+                over,
+            },
+        ) => {
             let status = length_status(ccw.incorrect_length(left, over));
             let mask = d.mask;
             return Answer::Ends(End {
@@ -88,22 +92,31 @@ pub fn excepted(m: Moved, d: Drive) -> Answer
 }
 
 // A read of `length` bytes that ends with a faulted data area: a cut, unless a program check came first.
-pub fn faulted(m: Moved, first: Location, p: Place, f: Listed, length: usize, d: Drive) -> Answer
+pub fn faulted(
+    m: Result<Moved, Location>,
+    first: Location,
+    p: Place,
+    f: Listed,
+    length: usize,
+    d: Drive,
+) -> Answer
     requires low_moved { LowMoved m }
     requires faulted_low { FaultedLow first p f length }
     ensures cuts_off { CutsOff first p f length (drive_of d) m result }
     ensures kept_always { KeptAlways result }
 {
     match m {
-        Moved::Checked(l) => {
+        Err(l) => {
             return command::program_check(l, d);
         }
-        Moved::Ended {
-            at,
-            ccw,
-            left,
-            over,
-        } => {
+        Ok(
+            Moved {
+                at,
+                ccw,
+                left,
+                over,
+            },
+        ) => {
             let status = length_status(ccw.incorrect_length(left, over));
             let mask = d.mask;
             let track: Address = p.at;

@@ -1,13 +1,13 @@
 -- The first 60,001 bytes of an input decide what is printed for it, as one of more than 60,000 bytes is refused.
+use Rattle.std.specs.Prelude.{None}
 use Rattle.std.proofs.Common.{◌≡◌, ℕ, ◌<◌, List, length, take, ap, sym, ◌∙◌, arith, length-take-le, take_all, ⊎_elim}
-use Rattle.std.proofs.Math.Option.{none}
 use Rattle.std.proofs.lemmas.Bool.{lt-leb}
 use Rattle.std.proofs.lemmas.Bool.Decides.{leb_tells}
 use Rattle.base.proofs.Choice.{pick_false}
 use Rattle.reading_input.specs.Input.{parts_of}
 use Rattle.reading_session.specs.Session.{printed, text_of, answered}
 
-too_long : (s : List ℕ) → 60000 < length s → parts_of s ≡ none
+too_long : (s : List ℕ) → 60000 < length s → parts_of s ≡ None
 unfolding parts_of
 too_long s h = pick_false _ _ (lt-leb (length s) 60000 h)
 

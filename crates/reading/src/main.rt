@@ -6,7 +6,7 @@ ghost use Rattle.std.specs.Prelude.{◌≡◌, ◌≤◌, length, take};
 ghost use Rattle.reading_session.specs.Session.{printed};
 ghost use Rattle.reading.specs.Printing.{Prints};
 
-use standard_input::Received;
+use std::fmt;
 use std::io::{self, Error, Read, Write};
 
 // The text for an input, at the front of an area; how many bytes it has.
@@ -18,36 +18,44 @@ fn answer(input: &[u8], out: &mut [u8; reading_lines::ROOM]) -> usize
     reading_session::run(input, &mut storage, out)
 }
 
-// How a run ended.
-enum Ended {
-    Printed,
-    NotRead(Error),
-    NotWritten(Error),
+// Why a run failed: a read or a write did.
+#[derive(Drop)]
+enum Failed {
+    Read(Error),
+    Write(Error),
+}
+
+impl fmt::Display for Failed {
+    fn fmt<W: fmt::Write>(&self, f: &mut fmt::Formatter<W>) -> fmt::Result {
+        match self {
+            Failed::Read(error) => write!(f, "standard input: {error}"),
+            Failed::Write(error) => write!(f, "standard output: {error}"),
+        }
+    }
 }
 
 // Reads an input to its end, and writes the text for it. One of more than 60,000 bytes is refused, so one byte more is read and no further
 // one. Where a read fails, nothing is written.
-fn read_and_print<R: Read, W: Write>(from: &mut R, to: &mut W) -> Ended
+fn read_and_print<R: Read, W: Write>(from: &mut R, to: &mut W) -> Result<(), Failed>
     ensures { Prints (R.remaining from.old) (W.contents to.old) (W.contents to.new) result }
 {
     let mut input = [0u8; 60001];
     let n = match standard_input::receive(from, &mut input) {
-        Received::Bytes(n) => n,
-        Received::Failed(error) => return Ended::NotRead(error),
+        Ok(n) => n,
+        Err(error) => return Err(Failed::Read(error)),
     };
     let mut out = [0u8; reading_lines::ROOM];
     let length = answer(&input[..n], &mut out);
     match to.write_all(&out[..length]) {
-        Ok(()) => Ended::Printed,
-        Err(error) => Ended::NotWritten(error),
+        Ok(()) => Ok(()),
+        Err(error) => Err(Failed::Write(error)),
     }
 }
 
 // A read or a write that fails is told on standard error.
 fn main(rt: HostRuntime) -> io::Result<()> {
     match read_and_print(&mut rt.stdin(), &mut rt.stdout()) {
-        Ended::Printed => Ok(()),
-        Ended::NotRead(error) => eprintln!(rt; "standard input: {error}"),
-        Ended::NotWritten(error) => eprintln!(rt; "standard output: {error}"),
+        Ok(()) => Ok(()),
+        Err(failed) => eprintln!(rt; "{failed}"),
     }
 }

@@ -5,7 +5,8 @@ ghost use Rattle.std.specs.Prelude.{◌≡◌, length};
 ghost use Rattle.reading_runs.specs.Conclusion.{OverLow, OutcomeLow};
 ghost use Rattle.reading_answer.specs.ReadingAnswer.{how_number, stop_number, over_bytes, reading_return, reading_answer_after};
 
-use reading_runs::{How, Outcome, Over};
+use questions::Question;
+use reading_runs::{How, Over};
 
 // What the call returns: 0 ended, "limit" or "stopped".
 fn how_number(h: How) -> u8
@@ -43,17 +44,17 @@ fn put_over(answer: &mut [u8], o: Over)
 }
 
 // An answer of a reading, into an area of 11 bytes; its number.
-pub fn put(answer: &mut [u8], o: Outcome) -> u8
+pub fn put(answer: &mut [u8], o: Result<Over, Question>) -> u8
     requires answer_len { length answer.old ≡ 11 }
     requires outcome_low { OutcomeLow o }
     ensures value { result ≡ reading_return o }
     ensures answer_after { answer.new ≡ reading_answer_after answer.old o }
 {
     match o {
-        Outcome::Refused(q) => {
-            return questions::number(q);
+        Err(q) => {
+            return u8::from(q);
         }
-        Outcome::Over(e) => {
+        Ok(e) => {
             put_over(answer, e);
             let how = e.how;
             return how_number(how);

@@ -4,6 +4,7 @@
 --   closed, corrected                an end: finished, and corrected only
 --   closed_low                       the CSW of the first fits its bytes
 --   refused, one, two, repeated      a stop, with all areas as they were
+use Rattle.std.specs.Prelude.{None}
 use Prim.Native.Nat.{ℕ}
 use mathlib.Core.Path.{◌≡◌, refl, ap, sym, ◌∙◌}
 use mathlib.Core.List.{List, [], ◌∷◌, ◌++◌}
@@ -23,7 +24,6 @@ use Rattle.location.specs.Low.{CswLow}
 use Rattle.command.specs.Answer.{cut_of}
 use Rattle.recovery.specs.Table.{rows}
 use Rattle.recovery.specs.Recovery as Recovery
-use Rattle.report.specs.declared.User.TheVariants.{Missing}
 use Rattle.recovered.specs.declared.Kind.{Kind}
 use Rattle.recovered.specs.declared.Kind.TheVariants.{Five, FiveA, Eight, Nine, Ten, TenA, Eleven}
 use Rattle.recovered.specs.declared.Recovered.{Recovered}
@@ -61,7 +61,7 @@ pub told : (k : Cut) (first : ℕ) → first ≡ address_of k.first
       csw = k.csw;
       first = first;
       mask = k.mask;
-      user = Missing;
+      user = None;
       tries = 0;
     })
 unfolding report_of cut_sense address_bytes Bytes.two Bytes.three Recovery.user_track Recovery.reached_head opt

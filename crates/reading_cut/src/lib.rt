@@ -12,7 +12,7 @@ use address::Extent;
 use channel::Csw;
 use command::Cut;
 use recovered::Recovered;
-use report::{Sense, Told, User};
+use report::{Sense, Told};
 
 // What comes of a cut: a restart, built and yet to be run; an end with this CSW; a stop by this number.
 #[derive(Clone, Copy)]
@@ -56,7 +56,7 @@ fn told_by(k: Cut) -> Told
         csw: csw,
         first: location::address_of(first),
         mask: mask,
-        user: User::Missing,
+        user: None,
         tries: 0,
     }
 }
@@ -119,7 +119,7 @@ pub fn after_cut(
 {
     match recover_cut(chain, x, k, storage, program, restart_arguments) {
         Recovered::Restart(kind) => {
-            note(entry, recovered::action_number(kind), k);
+            note(entry, u8::from(kind), k);
             Went::Again
         }
         Recovered::Finished(w) => {
@@ -131,7 +131,7 @@ pub fn after_cut(
             let w = k.csw;
             Went::Closed(w)
         }
-        Recovered::Refused(q) => Went::Halted(questions::number(q)),
+        Recovered::Refused(q) => Went::Halted(u8::from(q)),
         Recovered::ActionOne => Went::Halted(1),
         Recovered::ActionTwo => Went::Halted(2),
         Recovered::Repeat => Went::Halted(3),

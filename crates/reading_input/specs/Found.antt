@@ -1,11 +1,8 @@
 -- The places that the code finds, as parts, and that they lie in the input in order.
-use Rattle.std.specs.Prelude.{ℕ, ◌≤◌, List, drop}
-use Rattle.std.proofs.Math.Option.{Option, none, some}
+use Rattle.std.specs.Prelude.{ℕ, ◌≤◌, List, drop, Option, Some, None}
 use Rattle.base.specs.Bytes.{part}
 use Rattle.reading_input.specs.Input.{Parts}
 use Rattle.reading_input.specs.declared.Places.{Places}
-use Rattle.reading_input.specs.declared.Found as Code
-use Rattle.reading_input.specs.declared.Found.TheVariants.{At, Bad}
 
 -- the parts at these places
 abbrev pub parts_in : List ℕ → Places → Parts
@@ -18,9 +15,9 @@ parts_in s p = record {
 }
 
 -- the parts, if they were found
-abbrev pub found_in : List ℕ → Code.Found → Option Parts
-found_in s (At p) = some (parts_in s p)
-found_in s Bad = none
+abbrev pub found_in : List ℕ → Option Places → Option Parts
+found_in s (Some p) = Some (parts_in s p)
+found_in s None = None
 
 -- Each part ends no earlier than it begins, and within the first n bytes.
 pub record Ordered (p : Places) (n : ℕ) : Type 0 where
@@ -33,6 +30,6 @@ pub record Ordered (p : Places) (n : ℕ) : Type 0 where
   pub image : p.image ≤ n
 
 -- Places that were found are ordered so.
-abbrev pub Inside : Code.Found → ℕ → Type 0
-Inside (At p) n = Ordered p n
-Inside Bad n = Unit
+abbrev pub Inside : Option Places → ℕ → Type 0
+Inside (Some p) n = Ordered p n
+Inside None n = Unit

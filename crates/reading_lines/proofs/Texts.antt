@@ -5,6 +5,7 @@
 --   storage_put, short_put                             storage
 --   made_within                                        how many recoveries there are at most
 --   refusal_put, refused_put, over_put                 the answer
+use Rattle.std.specs.Prelude.{Result, Ok, Err}
 use Prim.Native.Nat.{ℕ, zero, suc, ◌+◌, ◌-◌, ◌<◌, ◌≤◌}
 use native.Mathlib.Nat.{add-zero, not-suc-le-zero}
 use native.Mathlib.Numerals.{sub-one}
@@ -25,10 +26,9 @@ use Rattle.status.specs.Status.{csw_text, refused_text}
 use Rattle.reading_runs.specs.declared.How.{How}
 use Rattle.reading_runs.specs.declared.How.TheVariants.{Ended, Limited, Stop}
 use Rattle.reading_runs.specs.declared.Over as Code
-use Rattle.reading_runs.specs.declared.Outcome.{Outcome}
-use Rattle.reading_runs.specs.declared.Outcome.TheVariants.{Refused, Over}
 use Rattle.reading_runs.specs.Conclusion.{MadeWithin}
 use Rattle.reading_lines.specs.Lines.{action_name, record_text, recovery_line, recovery_lines, end_name, end_line, storage_line, refusal_line, answer_text}
+use Rattle.reading_runs.specs.declared.Over.{Over}
 
 -- ---- a recovery's line
 
@@ -109,7 +109,7 @@ module _ {x y z : List ℕ} {at r q : ℕ} (st : List ℕ) where
 
 -- ---- the answer
 
-pub made_within : (n : ℕ) {o : Outcome} {e : Code.Over} → o ≡ Over e → MadeWithin n o → e.made ≤ n
+pub made_within : (n : ℕ) {o : Result Over Question} {e : Code.Over} → o ≡ Ok e → MadeWithin n o → e.made ≤ n
 made_within n q h = rw q at h
 
 pub refusal_put : {x y₁ y : List ℕ} {at r₁ r : ℕ} (q : Question) → Puts x at (refused_text q) y₁ r₁ → Puts y₁ r₁ (0x0a ∷ []) y r → Puts x at (refusal_line q) y r
@@ -117,11 +117,11 @@ unfolding refusal_line ascii
 refusal_put q a b = puts_then a b
 
 module _ {x y : List ℕ} {at r : ℕ} (st l : List ℕ) where
-  pub refused_put : {o : Outcome} {q : Question} → o ≡ Refused q → Puts x at (refusal_line q) y r → Puts x at (answer_text o st l) y r
+  pub refused_put : {o : Result Over Question} {q : Question} → o ≡ Err q → Puts x at (refusal_line q) y r → Puts x at (answer_text o st l) y r
   unfolding answer_text
   refused_put e p = rw e p
 
-  pub over_put : {o : Outcome} {e : Code.Over} {y₁ y₂ : List ℕ} {r₁ r₂ : ℕ} → o ≡ Over e → Puts x at (recovery_lines e.made l) y₁ r₁
+  pub over_put : {o : Result Over Question} {e : Code.Over} {y₁ y₂ : List ℕ} {r₁ r₂ : ℕ} → o ≡ Ok e → Puts x at (recovery_lines e.made l) y₁ r₁
       → Puts y₁ r₁ (end_line e.how e.csw) y₂ r₂ → Puts y₂ r₂ (storage_line st) y r → Puts x at (answer_text o st l) y r
   unfolding answer_text
   over_put e a b c = rw e (puts_then (puts_then a b) c)

@@ -1,5 +1,5 @@
 -- The lines that the program prints for an answer (document 01, the last paragraph under "Proved cases").
-use Rattle.std.specs.Prelude.{ℕ, zero, suc, List, [], ◌++◌, eqb, get_or, take, drop}
+use Rattle.std.specs.Prelude.{ℕ, zero, suc, List, [], ◌++◌, eqb, get_or, take, drop, Result, Ok, Err}
 use Rattle.base.specs.Choice.{pick}
 use Rattle.base.specs.Bytes.{be16_at}
 use Rattle.text.specs.Text.{ascii, number, bytes_text}
@@ -8,8 +8,7 @@ use Rattle.channel.specs.declared.Csw.{Csw}
 use Rattle.status.specs.Status.{csw_text, refused_text}
 use Rattle.reading_runs.specs.declared.How.{How}
 use Rattle.reading_runs.specs.declared.How.TheVariants.{Ended, Limited, Stop}
-use Rattle.reading_runs.specs.declared.Outcome.{Outcome}
-use Rattle.reading_runs.specs.declared.Outcome.TheVariants.{Refused, Over}
+use Rattle.reading_runs.specs.declared.Over.{Over}
 
 -- ---- the recoveries
 
@@ -59,6 +58,6 @@ unfoldable pub refusal_line : Question → List ℕ
 refusal_line q = refused_text q ++ ascii "\n"
 
 -- the lines of an answer, with storage and the list of recoveries behind it
-unfoldable pub answer_text : Outcome → (storage list : List ℕ) → List ℕ
-answer_text (Refused q) st l = refusal_line q
-answer_text (Over o) st l = recovery_lines o.made l ++ end_line o.how o.csw ++ storage_line st
+unfoldable pub answer_text : Result Over Question → (storage list : List ℕ) → List ℕ
+answer_text (Err q) st l = refusal_line q
+answer_text (Ok o) st l = recovery_lines o.made l ++ end_line o.how o.csw ++ storage_line st

@@ -8,7 +8,7 @@ ghost use Rattle.reading_lines.specs.Lines.{room, action_name, record_text, reco
 
 use channel::Csw;
 use questions::Question;
-use reading_runs::{How, Outcome};
+use reading_runs::{How, Over};
 
 // The bytes of the longest answer: 4,096 recoveries of 21, an end of 28, storage of 33.
 pub const ROOM: usize = 86077;
@@ -135,7 +135,7 @@ pub fn put_refusal(out: &mut [u8], at: usize, q: Question) -> usize
 }
 
 // The lines of an answer, with storage and the list of recoveries behind it, at the front of an area; how many bytes they have.
-pub fn put(out: &mut [u8], r: Outcome, storage: &[u8], list: &[u8]) -> usize
+pub fn put(out: &mut [u8], r: Result<Over, Question>, storage: &[u8], list: &[u8]) -> usize
     requires made_within { MadeWithin 4096 r }
     requires in_bounds { 24576 ≤ length list.now }
     requires room_in_bounds { room ≤ length out.old }
@@ -143,10 +143,10 @@ pub fn put(out: &mut [u8], r: Outcome, storage: &[u8], list: &[u8]) -> usize
     ensures upper_bound { result ≤ room }
 {
     match r {
-        Outcome::Refused(q) => {
+        Err(q) => {
             return put_refusal(out, 0, q);
         }
-        Outcome::Over(o) => {
+        Ok(o) => {
             let how = o.how;
             let end = put_recoveries(out, 0, list, o.made);
             let next = put_end(out, end, how, o.csw);

@@ -5,10 +5,10 @@
 --   on_ended, on_limited, on_exhausted   its end: by the run, by its limit, by a cut too many
 --   on_closed, on_halted                 by what a cut comes to
 --   on_again         one recovery more, and the restarted run
+use Rattle.std.specs.Prelude.{Some, Ok}
 use Prim.Native.Nat.{ℕ, suc, ◌+◌, ◌-◌, ◌≤◌}
 use native.Mathlib.Omega.{arith}
 use mathlib.Core.Path.{◌≡◌, refl, ap, sym, ◌∙◌}
-use mathlib.Core.Option.{some}
 use mathlib.Core.List.{List, [], ◌∷◌, ◌++◌, append-nil}
 use lib.ListN.{length, length-append}
 use Rattle.questions.specs.Areas.{restart_limit}
@@ -31,7 +31,6 @@ use Rattle.trial.specs.Run.{ran_of, Runs}
 use Rattle.demand_three.specs.WholeReading.{Entry, Restarted, Whole, restarted_in, restarted_run, final, given_in}
 use Rattle.reading_runs.specs.declared.How.{How}
 use Rattle.reading_runs.specs.declared.How.TheVariants.{Ended, Limited, Stop}
-use Rattle.reading_runs.specs.declared.Outcome.TheVariants as Outcome
 use Rattle.reading_cut.specs.declared.Went.TheVariants.{Again, Closed, Halted}
 use Rattle.reading_cut.specs.Entry.{entry_bytes}
 use Rattle.reading_cut.specs.Cut.{Areas, lent_areas, AfterCut}
@@ -48,11 +47,11 @@ pub record Logged (z : Areas) (g : Log Entry Restarted) (made : ℕ) (y : Areas)
 
 module _ (z : Areas) (g : Log Entry Restarted) (made : ℕ) (y : Areas) (logged : Logged z g made y) where
   -- an end of the reading, in the code's terms and in the definitions'
-  over_is : (h : How) (w : Csw) → leaving (Outcome.Over (record { csw = w; made = made; how = h })) y.storage y.program y.restart_arguments y.list
+  over_is : (h : How) (w : Csw) → leaving (Ok (record { csw = w; made = made; how = h })) y.storage y.program y.restart_arguments y.list
       ≡ over g h w y.storage z.program z.restart_arguments z.list
   unfolding over
   over_is h w = λ i. record {
-    answer = Outcome.Over (record { csw = w; made = logged.count i; how = h });
+    answer = Ok (record { csw = w; made = logged.count i; how = h });
     storage = y.storage;
     program = logged.program i;
     restart_arguments = logged.restart_arguments i;
@@ -98,7 +97,7 @@ module _ (chain arguments image faults : List ℕ) (x : Extent) (n : ℕ) (first
   abbrev pub Onward : ℕ → Ran → Areas → Type 0
   Onward made r y =
       (g : Log Entry Restarted) × Logged z g made y
-      × ((fs : List Fault) → faults_at faults 0 ≡ some fs → rest fs n no_log first z.storage ≡ rest fs (n - made) g r y.storage)
+      × ((fs : List Fault) → faults_at faults 0 ≡ Some fs → rest fs n no_log first z.storage ≡ rest fs (n - made) g r y.storage)
 
   pub at_first : Onward 0 first z
   unfolding program_after restart_arguments_after list_after entries_bytes
@@ -113,7 +112,7 @@ module _ (chain arguments image faults : List ℕ) (x : Extent) (n : ℕ) (first
   -- the conclusion of a reading that goes on
   concludes : (y : Areas) (made : ℕ) (r : Ran) (o : Onward made r y) (c : Conclusion)
       → ((fs : List Fault) → c ≡ shown (rest fs (n - made) o.0 r y.storage))
-      → (fs : List Fault) → faults_at faults 0 ≡ some fs → c ≡ shown (rest fs n no_log first z.storage)
+      → (fs : List Fault) → faults_at faults 0 ≡ Some fs → c ≡ shown (rest fs n no_log first z.storage)
   concludes y made r o c h fs e =
       h fs ∙ ap shown (sym (o.2 fs e))
 
@@ -165,7 +164,7 @@ module _ (chain arguments image faults : List ℕ) (x : Extent) (n : ℕ) (first
         on_halted m u (s, e, f, same) =
             let kept : home u ≡ y = ap home same ∙ ap (lent_areas y.storage y.program y.restart_arguments) (part_kept made y.list) in
             concludes y made (Ran.Cut k) o _
-            (λ fs. ap (λ (v : Areas). leaving (Outcome.Over (record { csw = k.csw; made = made; how = Stop m })) v.storage v.program v.restart_arguments v.list) kept
+            (λ fs. ap (λ (v : Areas). leaving (Ok (record { csw = k.csw; made = made; how = Stop m })) v.storage v.program v.restart_arguments v.list) kept
             ∙ over_is z o.0 made y o.1 (Stop m) k.csw
             ∙ ap (λ (v : ℕ). over o.0 (Stop v) k.csw y.storage z.program z.restart_arguments z.list) f
             ∙ ap shown (sym (some_left fs ∙ reading_stop _ _ _ (n - (made + 1)) o.0 _ s e)))

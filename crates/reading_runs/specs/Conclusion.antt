@@ -1,5 +1,5 @@
 -- What a reading ends with, and every area that it may write (document 01, "Bounds of the work").
-use Rattle.std.specs.Prelude.{ℕ, ◌*◌, ◌<◌, ◌≤◌, List, [], ◌∷◌, ◌++◌, length, drop}
+use Rattle.std.specs.Prelude.{ℕ, ◌*◌, ◌<◌, ◌≤◌, List, [], ◌∷◌, ◌++◌, length, drop, Result, Ok, Err}
 use Rattle.abstract_machine.specs.Reading.{Log, ends, limited, exhausted, stops}
 use Rattle.channel.specs.declared.Csw.{Csw}
 use Rattle.location.specs.Low.{CswLow}
@@ -8,8 +8,8 @@ use Rattle.reading_cut.specs.Entry.{entry_bytes, stopped_number}
 use Rattle.reading_runs.specs.declared.How.{How}
 use Rattle.reading_runs.specs.declared.How.TheVariants.{Ended, Limited, Stop}
 use Rattle.reading_runs.specs.declared.Over as Code
-use Rattle.reading_runs.specs.declared.Outcome.{Outcome}
-use Rattle.reading_runs.specs.declared.Outcome.TheVariants.{Refused, Over}
+use Rattle.reading_runs.specs.declared.Over.{Over}
+use Rattle.questions.specs.declared.Question.{Question}
 
 -- ---- the areas behind a reading
 
@@ -36,20 +36,20 @@ restart_arguments_after (r ∷ rs) a = restart_arguments_after rs r.restart_argu
 
 -- An answer, and the areas behind it.
 pub record Conclusion : Type 0 where
-  pub answer : Outcome
+  pub answer : Result Over Question
   pub storage : List ℕ
   pub program : List ℕ
   pub restart_arguments : List ℕ
   pub list : List ℕ
 
 -- the same, from its parts
-abbrev pub leaving : Outcome → (storage program restart_arguments list : List ℕ) → Conclusion
+abbrev pub leaving : Result Over Question → (storage program restart_arguments list : List ℕ) → Conclusion
 leaving o st p a l = record { answer = o; storage = st; program = p; restart_arguments = a; list = l }
 
 -- How it ended, with a CSW and storage, after the recoveries of a log.
 unfoldable pub over : Log Entry Restarted → How → Csw → (storage program restart_arguments list : List ℕ) → Conclusion
 over g h w st p a l =
-    leaving (Over (record { csw = w; made = length g.made; how = h })) st (program_after g.built p) (restart_arguments_after g.built a) (list_after g.made l)
+    leaving (Ok (record { csw = w; made = length g.made; how = h })) st (program_after g.built p) (restart_arguments_after g.built a) (list_after g.made l)
 
 -- "Any other end of a run is its end"; "limit" of a run "with its last CSW", or of a cut too many "with that cut's CSW"; "stopped" with
 -- "the cut's CSW"; each with "storage as the reads left it".
@@ -62,9 +62,9 @@ concluded (stops g n k) p a l = over g (Stop (stopped_number n)) k.csw k.storage
 -- ---- what its numbers fit
 
 -- there are no more recoveries than the limit allows
-abbrev pub MadeWithin : ℕ → Outcome → Type 0
-MadeWithin n (Refused q) = Unit {0}
-MadeWithin n (Over o) = o.made ≤ n
+abbrev pub MadeWithin : ℕ → Result Over Question → Type 0
+MadeWithin n (Err q) = Unit {0}
+MadeWithin n (Ok o) = o.made ≤ n
 
 -- what a reading ends with fits its bytes
 pub record OverLow (o : Code.Over) : Type 0 where
@@ -72,6 +72,6 @@ pub record OverLow (o : Code.Over) : Type 0 where
   pub made_low : o.made < 0x10000
 
 -- the same of an answer that is no refusal
-abbrev pub OutcomeLow : Outcome → Type 0
-OutcomeLow (Refused q) = Unit {0}
-OutcomeLow (Over o) = OverLow o
+abbrev pub OutcomeLow : Result Over Question → Type 0
+OutcomeLow (Err q) = Unit {0}
+OutcomeLow (Ok o) = OverLow o

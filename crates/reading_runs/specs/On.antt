@@ -1,6 +1,5 @@
 -- A reading from its first run on, as the code has it.
-use Rattle.std.specs.Prelude.{ℕ, ◌≡◌, List, []}
-use Rattle.std.proofs.Math.Option.{some}
+use Rattle.std.specs.Prelude.{ℕ, ◌≡◌, List, [], Some, Ok}
 use Rattle.faults.specs.Faults.{Fault, faults_at}
 use Rattle.address.specs.declared.Extent.{Extent}
 use Rattle.address.specs.Model.{last_of}
@@ -15,7 +14,6 @@ use Rattle.demand_three.specs.WholeReading.{Entry, Restarted, Whole, recover_cut
 use Rattle.command.specs.Answer.{setting_with, lent_of}
 use Rattle.reading_cut.specs.Cut.{Areas}
 use Rattle.reading_runs.specs.declared.Over.{Over}
-use Rattle.reading_runs.specs.declared.Outcome.TheVariants as Outcome
 use Rattle.reading_runs.specs.Conclusion.{leaving, concluded}
 
 -- what a run of the chain is told, on a pack with this last cylinder
@@ -33,6 +31,6 @@ read_on fs w x k g r = reading (restarted_run fs w) (recover_cut (given_in w row
 -- What the code makes of the first run's result, with n recoveries allowed: its answer and the areas behind it are the definitions'.
 abbrev pub ReadsOn : (chain arguments image faults : List ℕ) → Extent → ℕ → Ran → Areas → Over → Areas → Type 0
 ReadsOn chain arguments image faults x n first z o y =
-    (fs : List Fault) → faults_at faults 0 ≡ some fs
-    → leaving (Outcome.Over o) y.storage y.program y.restart_arguments y.list
+    (fs : List Fault) → faults_at faults 0 ≡ Some fs
+    → leaving (Ok o) y.storage y.program y.restart_arguments y.list
     ≡ concluded (read_on fs (told_of (last_of x.model) chain arguments image) x n no_log (ran_of first z.storage)) z.program z.restart_arguments z.list

@@ -10,7 +10,6 @@ ghost use Rattle.reading_runs.specs.On.{ReadsOn};
 
 use address::Extent;
 use channel::{Csw, Location};
-use questions::Question;
 use reading_cut::Went;
 use trial::Ran;
 
@@ -28,12 +27,6 @@ pub struct Over {
     pub csw: Csw,
     pub made: usize,
     pub how: How,
-}
-
-#[derive(Clone, Copy)]
-pub enum Outcome {
-    Refused(Question),
-    Over(Over),
 }
 
 // From the first run on.

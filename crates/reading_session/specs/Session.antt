@@ -1,9 +1,8 @@
 -- What the program prints for its input (document 01, the last paragraph under "Proved cases").
-use Rattle.std.specs.Prelude.{ℕ, List, replicate}
+use Rattle.std.specs.Prelude.{ℕ, List, replicate, Err}
 use Rattle.base.specs.Choice.{opt}
 use Rattle.questions.specs.declared.Question.TheVariants as Question
 use Rattle.address.specs.declared.Model.TheVariants.{One}
-use Rattle.reading_runs.specs.declared.Outcome.TheVariants.{Refused}
 use Rattle.reading_runs.specs.Conclusion.{Conclusion, leaving}
 use Rattle.whole_reading.specs.Reading.{reading_call}
 use Rattle.reading_input.specs.Input.{Parts, parts_of}
@@ -16,7 +15,7 @@ reading_of p st = reading_call One p.chain p.arguments st p.image p.faults p.ext
 -- What an input comes to: "more, or a bad 30 to 32, is refusal 1", else the reading of its parts.
 unfoldable pub answered : List ℕ → List ℕ → Conclusion
 answered s st =
-    opt (parts_of s) (leaving (Refused Question.Areas) st (replicate 64 0) (replicate 16 0) (replicate 24576 0)) (λ p. reading_of p st)
+    opt (parts_of s) (leaving (Err Question.Areas) st (replicate 64 0) (replicate 16 0) (replicate 24576 0)) (λ p. reading_of p st)
 
 -- the lines of a conclusion
 unfoldable pub shown : Conclusion → List ℕ

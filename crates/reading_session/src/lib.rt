@@ -9,7 +9,7 @@ ghost use Rattle.reading_session.specs.Session.{reading_of, shown, answered, tex
 
 use address::Model;
 use questions::Question;
-use reading_input::{Found, Places};
+use reading_input::Places;
 
 // The reading of the parts at their places, and its lines.
 fn read_parts(input: &[u8], p: Places, storage: &mut [u8], out: &mut [u8]) -> usize
@@ -52,7 +52,7 @@ pub fn run(input: &[u8], storage: &mut [u8], out: &mut [u8; reading_lines::ROOM]
     ensures length { result ≤ length out.new }
     ensures storage { storage.new ≡ (answered input.now storage.old).storage }
 {
-    let Found::At(p) = reading_input::find(input) else {
+    let Some(p) = reading_input::find(input) else {
         return reading_lines::put_refusal(out, 0, Question::Areas);
     };
     read_parts(input, p, storage, out)

@@ -3,10 +3,10 @@
 --   areas_say                     what it says of the areas
 --   told_in                       what a report tells, on a pack of the extent's model
 --   wrong-areas .. answers        the questions in order
+use Rattle.std.specs.Prelude.{Some, None, Result, Ok, Err}
 use Prim.Native.Nat.{ℕ, ◌≤◌}
 use mathlib.Core.Path.{◌≡◌, ap, sym, subst, ◌∙◌}
 use mathlib.Core.Bool.{true, false, ◌&&◌}
-use mathlib.Core.Option.{none, some}
 use mathlib.Core.List.{List}
 use lib.Dec.{eqb, leb}
 use lib.ListN.{length}
@@ -23,8 +23,6 @@ use Rattle.recovery.specs.Table.{rows}
 use Rattle.recovery.specs.Recovery as Recovery
 use Rattle.recovery.specs.Report.{Report, report_from}
 use Rattle.report.specs.declared.Report as Code
-use Rattle.report.specs.declared.Reported.{Reported}
-use Rattle.report.specs.declared.Reported.TheVariants.{Well}
 use Rattle.report.specs.Reported.{report_of, reported_of, Bounded}
 use Rattle.report.specs.declared.Told.{Told}
 use Rattle.report.specs.Told.{Tells}
@@ -90,16 +88,16 @@ module _ (m : Model) (chain report extent st p a : List ℕ) where
   wrong_areas h = sym (pick_false _ _ h)
 
   module _ (h : recover_areas (length chain) (length st) (length p) (length a) (length extent) ≡ true) where
-    pub ill_formed : (r : Reported) (q : Question) → reported_of report r ≡ report_from report → Bounded report r → r ≡ Reported.Refused q
+    pub ill_formed : (r : Result Code.Report Question) (q : Question) → reported_of report r ≡ report_from report → Bounded report r → r ≡ Err q
         → with (Refused q) st p a ≡ recover_call m chain report extent st p a
     unfolding recover_call refusal opt
     ill_formed r q e b f =
-        let ill : none ≡ report_from report = rw f at e in
+        let ill : None ≡ report_from report = rw f at e in
         let four : q ≡ Question.Report = rw f at b in
         rw four (sym (pick_true _ _ h ∙ rw (← ill)))
 
-    module _ (r : Reported) (w : Code.Report) (e : reported_of report r ≡ report_from report) (f : r ≡ Well w) where
-      reported : some (report_of report w) ≡ report_from report
+    module _ (r : Result Code.Report Question) (w : Code.Report) (e : reported_of report r ≡ report_from report) (f : r ≡ Ok w) where
+      reported : Some (report_of report w) ≡ report_from report
       reported = rw f at e
 
       after_report : (out : Applied)

@@ -10,6 +10,8 @@ use Rattle.address.specs.Within.{extent_of, sound_extent}
 use Rattle.recovery.specs.Table.{rows}
 use Rattle.recovery.specs.Report.{Report, report_from}
 use Rattle.recovery.specs.Recovery as Recovery
+use Rattle.error_table.specs.declared.Action.{Action}
+use Rattle.error_table.specs.Table.{code_of}
 use Rattle.report.specs.declared.Told.{Told}
 use Rattle.report.specs.Told.{Tells}
 use Rattle.recovered.specs.declared.Recovered.{Recovered}
@@ -38,9 +40,9 @@ recover_call m chain report extent st p a =
 
 -- ---- once these questions are answered
 
--- an action, by its code
-abbrev pub ActsBy : ℕ → (chain : List ℕ) → ℕ → Told → Decision → Type 0
-ActsBy k chain size t d = Decides (λ g r st. Recovery.act g r st k) chain size t d
+-- an action of the error table
+abbrev pub ActsBy : Action → (chain : List ℕ) → ℕ → Told → Decision → Type 0
+ActsBy action chain size t d = Decides (λ g r st. Recovery.act g r st (code_of action)) chain size t d
 
 -- the whole recovery in an extent, of every report that tells this, and of every storage of this length
 abbrev pub DecidesIn : Extent → (chain : List ℕ) → ℕ → Told → Decision → Type 0

@@ -10,61 +10,48 @@ ghost use Rattle.recover.specs.Recover.{recover_call, ActsBy, DecidesIn, Recover
 
 use address::{Extent, Model};
 use decision::Decision;
-use error_table::Chosen;
+use error_table::Action;
 use questions::Question;
 use recovered::Recovered;
-use report::{Reported, Told};
+use report::Told;
 
 // Actions 3 and 4: the chain is run again as long as there were fewer tries than the limit.
 fn tried(tries: usize, limit: usize) -> Recovered
     ensures { result ≡ tried_of tries limit }
 {
     if tries < limit {
-        return Recovered::Repeat;
+        Recovered::Repeat
+    } else {
+        Recovered::ActionOne
     }
-    Recovered::ActionOne
 }
 
-// What an action decides, by its code.
-fn act(k: u8, chain: &[u8], size: usize, t: Told) -> Decision
+// What an action decides.
+fn act(action: Action, chain: &[u8], size: usize, t: Told) -> Decision
     requires chain_len_bound { length chain.now ≤ 2048 }
     requires size_bound { size ≤ 65536 }
     requires told_low { ToldLow t }
-    ensures acts_by { ActsBy k chain.now size t result }
+    ensures acts_by { ActsBy action chain.now size t result }
     ensures goes_low { GoesLow result }
 {
-    if k == 1 {
-        return Decision::Answers(Recovered::ActionOne);
+    match action {
+        Action::One => Decision::Answers(Recovered::ActionOne),
+        Action::Two => Decision::Answers(Recovered::ActionTwo),
+        Action::Three => Decision::Answers(tried(t.tries, 1)),
+        Action::Four => Decision::Answers(tried(t.tries, 10)),
+        Action::Five => action_five::five(chain, size, t),
+        Action::Eight => action_eight_ten::eight(chain, t),
+        Action::Nine => action_nine_eleven::nine(chain, size, t),
+        Action::Ten => action_eight_ten::ten(chain, t),
+        Action::Eleven => action_nine_eleven::eleven(chain, size, t),
+        Action::Six | Action::SixA | Action::Seven => {
+            Decision::Answers(Recovered::Refused(Question::Action))
+        }
     }
-    if k == 2 {
-        return Decision::Answers(Recovered::ActionTwo);
-    }
-    if k == 3 {
-        return Decision::Answers(tried(t.tries, 1));
-    }
-    if k == 4 {
-        return Decision::Answers(tried(t.tries, 10));
-    }
-    if k == 5 {
-        return action_five::five(chain, size, t);
-    }
-    if k == 8 {
-        return action_eight_ten::eight(chain, t);
-    }
-    if k == 9 {
-        return action_nine_eleven::nine(chain, size, t);
-    }
-    if k == 10 {
-        return action_eight_ten::ten(chain, t);
-    }
-    if k == 11 {
-        return action_nine_eleven::eleven(chain, size, t);
-    }
-    Decision::Answers(Recovered::Refused(Question::Action))
 }
 
 // The action of the error table.
-fn choose(t: Told) -> Chosen
+fn choose(t: Told) -> Option<Action>
     ensures { Chooses t.sense.byte0 t.sense.byte1 t.sense.byte2 result }
 {
     let s = t.sense;
@@ -80,8 +67,8 @@ fn decide(chain: &[u8], size: usize, t: Told, x: Extent) -> Decision
     ensures decision_low { DecisionLow result }
 {
     match choose(t) {
-        Chosen::NoRow => Decision::Answers(Recovered::Refused(Question::Row)),
-        Chosen::Action(k) => decision::bound(x, act(k, chain, size, t)),
+        Some(action) => decision::bound(x, act(action, chain, size, t)),
+        None => Decision::Answers(Recovered::Refused(Question::Row)),
     }
 }
 
@@ -153,8 +140,8 @@ pub fn recover(
         return Recovered::Refused(Question::Areas);
     }
     let r = match report::read(report) {
-        Reported::Well(w) => w,
-        Reported::Refused(q) => {
+        Ok(w) => w,
+        Err(q) => {
             return Recovered::Refused(q);
         }
     };

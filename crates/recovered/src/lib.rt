@@ -10,12 +10,12 @@ ghost use Rattle.recovered.specs.Sensible.{Sensible, InBounds};
 
 use address::{Address, Extent};
 use channel::{Csw, Location};
-use drive::{Command, FileMask};
+use drive::Command;
 use questions::Question;
 use report::Sense;
 
 // Which restart was built.
-#[derive(Clone, Copy)]
+#[derive(Clone, Copy, PartialEq, Eq)]
 pub enum Kind {
     Five,
     FiveA,
@@ -40,17 +40,19 @@ pub enum Recovered {
 }
 
 // The action of a restart.
-pub fn action_number(k: Kind) -> u8
-    ensures { result ≡ action_number k }
-{
-    match k {
-        Kind::Five => 0x05,
-        Kind::FiveA => 0x15,
-        Kind::Eight => 0x08,
-        Kind::Nine => 0x09,
-        Kind::Ten => 0x0a,
-        Kind::TenA => 0x1a,
-        Kind::Eleven => 0x0b,
+impl From<Kind> for u8 {
+    ghost from_gives = { λ k n. n ≡ action_number k };
+
+    fn from(k: Kind) -> u8 {
+        match k {
+            Kind::Five => 0x05,
+            Kind::FiveA => 0x15,
+            Kind::Eight => 0x08,
+            Kind::Nine => 0x09,
+            Kind::Ten => 0x0a,
+            Kind::TenA => 0x1a,
+            Kind::Eleven => 0x0b,
+        }
     }
 }
 
@@ -68,14 +70,14 @@ pub fn seek_allowed(x: Extent, a: Address) -> bool
 // ---- the tests of a correctable data check
 
 // PCI fetch mode: mask bit 7.
-pub fn fetch_mode(mask: FileMask) -> bool
+pub fn fetch_mode(mask: Option<u8>) -> bool
     ensures { result ≡ Recovery.fetch_mode mask }
 {
     match mask {
-        FileMask::Unset => {
+        None => {
             return false;
         }
-        FileMask::Set(m) => {
+        Some(m) => {
             return base::bit(m, 7);
         }
     }

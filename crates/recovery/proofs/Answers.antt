@@ -1,10 +1,10 @@
 -- Properties of whatever recovery answers, from what its answers are built of.
 --   five_by       an answer of action 5, from one with a correction by the places of the read
 --   recover_by    an answer of recovery, from one of action 5
+use Rattle.std.specs.Prelude.{Option, Some, Result, Ok, Err}
 use Prim.Native.Nat.{ℕ}
 use mathlib.Core.Path.{◌≡◌, refl}
 use mathlib.Core.Bool.{Bool, true}
-use mathlib.Core.Option.{Option, some}
 use mathlib.Core.List.{List}
 use Rattle.base.specs.Choice.{pick}
 use Rattle.base.proofs.Choice.{both, both_if, either, either_if, and_right}
@@ -13,22 +13,19 @@ use Rattle.address.specs.declared.Address.{Address}
 use Rattle.channel.specs.declared.Ccw.{Ccw}
 use Rattle.channel.specs.declared.Location.{Location}
 use Rattle.channel.specs.declared.Location.TheVariants.{Chain, Restart}
-use Rattle.channel.specs.declared.Fetched.{Fetched}
-use Rattle.channel.specs.declared.Fetched.TheVariants.{Got, Broken}
 use Rattle.channel.specs.Ccw.{fetch_in}
 use Rattle.channel.specs.Walk.{Walk, walked, checked}
 use Rattle.drive.specs.Command.{command_of}
-use Rattle.restart.specs.declared.LastTic.{LastTic}
 use Rattle.recovery.specs.Report.{Report}
 use Rattle.recovery.specs.Recovery as Recovery
 use Rattle.recovery.specs.Recovery.{Recovery, Kind, Given, refused, action_one, action_two, repeats, corrected_only, finished, restarts, five, five_a, on_next, sensible, correction}
 
 module _ (P : Recovery → Type 0) (g : Given) (r : Report) (st : List ℕ) (refuses : (q : Question) → P (refused q)) (second : P action_two) where
-  next_by : (f : Fetched) (q : Question) (on : ℕ → Ccw → Recovery) → ((to : ℕ) (c : Ccw) → P (on to c)) → P (on_next f (refused q) on)
+  next_by : (f : Result (Location × Ccw) Location) (q : Question) (on : ℕ → Ccw → Recovery) → ((to : ℕ) (c : Ccw) → P (on to c)) → P (on_next f (refused q) on)
   unfolding on_next
-  next_by (Broken l) q on h = refuses q
-  next_by (Got (Restart a) c) q on h = refuses q
-  next_by (Got (Chain a) c) q on h = h a c
+  next_by (Err l) q on h = refuses q
+  next_by (Ok (Restart a, c)) q on h = refuses q
+  next_by (Ok (Chain a, c)) q on h = h a c
 
   -- ---- action 5
 
@@ -57,7 +54,7 @@ module _ (P : Recovery → Type 0) (g : Given) (r : Report) (st : List ℕ) (ref
   walked_by (checked ps l) h = refuses _
   walked_by (walked ps l c left over) h = both P _ (after_walk_by ps l c _ (h ps l c left over refl)) (refuses _)
 
-  pub five_by : ((c : Ccw) → fetch_in g.chain r.first ≡ some c → sensible r.sense ≡ true → (ps : List (Option ℕ)) → Walks c ps) → P (Recovery.action_five g r st)
+  pub five_by : ((c : Ccw) → fetch_in g.chain r.first ≡ Some c → sensible r.sense ≡ true → (ps : List (Option ℕ)) → Walks c ps) → P (Recovery.action_five g r st)
   unfolding Recovery.action_five
   five_by h =
       both P _
@@ -83,7 +80,7 @@ module _ (P : Recovery → Type 0) (g : Given) (r : Report) (st : List ℕ) (ref
         (λ a c.
         both P _ (both P _ (next_by _ _ _ (λ to d. home_by _ _ _)) (refuses _)) (either P _ (refuses _) (λ b. home_by _ _ _)))
 
-    overflow_restart_by : (k : Kind) (a : Address) (c : Ccw) (tic : LastTic) → P (Recovery.overflow_restart g r st k a c tic)
+    overflow_restart_by : (k : Kind) (a : Address) (c : Ccw) (tic : Option ℕ) → P (Recovery.overflow_restart g r st k a c tic)
     unfolding Recovery.overflow_restart
     overflow_restart_by k a c tic = both P _ (restarting k _ _) second
 

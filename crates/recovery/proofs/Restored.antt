@@ -5,12 +5,12 @@
 --   not_here, not_later    a place that no later byte goes to, of the next byte and of those behind it
 --   mend_none          0 exclusive-ored into a byte
 --   restored           what arrived with a pattern in it, corrected by that pattern, is what was read
+use Rattle.std.specs.Prelude.{Option, Some, None}
 use Prim.Native.Nat.{ℕ, suc, ◌≤◌}
 use native.Mathlib.Omega.{arith}
 use mathlib.Core.Path.{◌≡◌, refl, ap, sym, ◌∙◌}
 use mathlib.Core.Logic.{◌≢◌}
 use mathlib.Core.Bool.{Bool, true, false}
-use mathlib.Core.Option.{Option, none, some}
 use mathlib.Core.List.{List, [], ◌∷◌, ◌++◌}
 use lib.Bits.{bit_xor, xor_zero_r}
 use lib.Dec.{ltb}
@@ -41,8 +41,8 @@ length_xored (b ∷ bs) (x ∷ xs) h = ap suc (length_xored bs xs (omega arith))
 
 length_mend : (q : Option ℕ) (x : ℕ) (st : List ℕ) → length (mend q x st) ≡ length st
 unfolding mend
-length_mend none x st = refl
-length_mend (some a) x st = length-set st a _
+length_mend None x st = refl
+length_mend (Some a) x st = length-set st a _
 
 pub length_corrected : (ps : List (Option ℕ)) (xs st : List ℕ) → length (corrected ps xs st) ≡ length st
 unfolding corrected
@@ -56,10 +56,10 @@ length_corrected (p ∷ ps) (x ∷ xs) st =
 
 same_place_lem : (p q : Option ℕ) → same_place p q ≡ true → p ≡ q
 unfolding same_place
-same_place_lem none none h = refl
-same_place_lem none (some a) h = cc
-same_place_lem (some a) none h = cc
-same_place_lem (some a) (some b) h = ap some (eqb-true a b h)
+same_place_lem None None h = refl
+same_place_lem None (Some a) h = cc
+same_place_lem (Some a) None h = cc
+same_place_lem (Some a) (Some b) h = ap Some (eqb-true a b h)
 
 -- a place that no later byte goes to is neither the next one nor later overwritten
 pub not_here : (p q : Option ℕ) (ps : List (Option ℕ)) → overwritten p (q ∷ ps) ≡ false → same_place p q ≡ false
@@ -78,30 +78,30 @@ not_later p q ps h = sym (pick_false true (overwritten p ps) (not_here p q ps h)
 
 put_put : (p : Option ℕ) (b c : ℕ) (st : List ℕ) → put p b (put p c st) ≡ put p b st
 unfolding put
-put_put none b c st = refl
-put_put (some a) b c st = set-set st a c b
+put_put None b c st = refl
+put_put (Some a) b c st = set-set st a c b
 
 put_apart : (p q : Option ℕ) (b c : ℕ) (st : List ℕ) → same_place p q ≡ false → put p b (put q c st) ≡ put q c (put p b st)
 unfolding put same_place
-put_apart none none b c st h = refl
-put_apart none (some d) b c st h = refl
-put_apart (some a) none b c st h = refl
-put_apart (some a) (some d) b c st h = set_comm st d a c b (λ e. eqb-false a d h (sym e))
+put_apart None None b c st h = refl
+put_apart None (Some d) b c st h = refl
+put_apart (Some a) None b c st h = refl
+put_apart (Some a) (Some d) b c st h = set_comm st d a c b (λ e. eqb-false a d h (sym e))
 
 mend_apart : (p q : Option ℕ) (x b : ℕ) (st : List ℕ) → same_place p q ≡ false → mend p x (put q b st) ≡ put q b (mend p x st)
 unfolding put mend same_place
-mend_apart none none x b st h = refl
-mend_apart none (some d) x b st h = refl
-mend_apart (some a) none x b st h = refl
-mend_apart (some a) (some d) x b st h =
+mend_apart None None x b st h = refl
+mend_apart None (Some d) x b st h = refl
+mend_apart (Some a) None x b st h = refl
+mend_apart (Some a) (Some d) x b st h =
     let apart : a ≢ d = eqb-false a d h in
     rw (get_or-set_other st d a b 0 apart) (set_comm st d a b _ (λ e. apart (sym e)))
 
 -- a byte that arrived with x in it, mended by x
 mend_put : (p : Option ℕ) (b x : ℕ) (st : List ℕ) → mend p x (put p (bit_xor b x) st) ≡ put p b st
 unfolding put mend
-mend_put none b x st = refl
-mend_put (some a) b x st = by (ltb a (length st)) refl
+mend_put None b x st = refl
+mend_put (Some a) b x st = by (ltb a (length st)) refl
   where
     by : (t : Bool) → ltb a (length st) ≡ t → set (set st a (bit_xor b x)) a (bit_xor (get_or (set st a (bit_xor b x)) a 0) x) ≡ set st a b
     by true e =
@@ -110,8 +110,8 @@ mend_put (some a) b x st = by (ltb a (length st)) refl
 
 pub mend_none : (q : Option ℕ) (st : List ℕ) → mend q 0 st ≡ st
 unfolding mend
-mend_none none st = refl
-mend_none (some a) st = ap (set st a) (xor_zero_r (get_or st a 0)) ∙ set-get_or st a 0
+mend_none None st = refl
+mend_none (Some a) st = ap (set st a) (xor_zero_r (get_or st a 0)) ∙ set-get_or st a 0
 
 -- ---- the later bytes of a read
 

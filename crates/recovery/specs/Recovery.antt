@@ -1,7 +1,6 @@
 -- Recovery from one report (document 01, "Actions built" and "The questions"; document 02, multitrack reads, the head reached,
 -- and overflow actions 9 and 11).
-use Rattle.std.specs.Prelude.{ℕ, ◌+◌, ◌-◌, ◌%◌, Bool, true, false, ◌&&◌, ◌||◌, not, List, [], eqb, ltb, leb, length, get_or}
-use Rattle.std.proofs.Math.Option.{Option, none, some}
+use Rattle.std.specs.Prelude.{ℕ, ◌+◌, ◌-◌, ◌%◌, Bool, true, false, ◌&&◌, ◌||◌, not, List, [], eqb, ltb, leb, length, get_or, Option, Some, None, Result, Ok, Err}
 use Rattle.base.specs.Choice.{pick, opt}
 use Rattle.base.specs.Bytes.{be16_at, be24_at, part}
 use Rattle.base.specs.Bits.{bit_on}
@@ -14,20 +13,14 @@ use Rattle.address.specs.Within.{within}
 use Rattle.channel.specs.declared.Ccw.{Ccw}
 use Rattle.channel.specs.declared.Location.{Location}
 use Rattle.channel.specs.declared.Location.TheVariants.{Chain, Restart}
-use Rattle.channel.specs.declared.Fetched.{Fetched}
-use Rattle.channel.specs.declared.Fetched.TheVariants.{Got, Broken}
 use Rattle.channel.specs.declared.Csw.{Csw}
 use Rattle.channel.specs.Ccw.{Lent, chains_data, chains_command, is_tic, address_of, next, fetch_in, resolve}
 use Rattle.channel.specs.Csw.{unit_check}
 use Rattle.channel.specs.Walk.{Walk, walked, checked, walk, readable, incorrect_length}
 use Rattle.drive.specs.declared.Command.{Command}
 use Rattle.drive.specs.declared.Command.TheVariants.{NoOperation, Seek, SetMask, SetSector, SearchId, ReadHome, ReadRecord, SearchIdMultitrack, ReadMultitrack, Unlisted}
-use Rattle.drive.specs.declared.FileMask.{FileMask}
-use Rattle.drive.specs.declared.FileMask.TheVariants.{Unset, Set}
 use Rattle.drive.specs.Command.{command_of}
 use Rattle.drive.specs.Step.{sought, spread}
-use Rattle.restart.specs.declared.LastTic.{LastTic}
-use Rattle.restart.specs.declared.LastTic.TheVariants.{To, Absent}
 use Rattle.restart.specs.Restart.{ccw_bytes, program_of, count_for, search_program, rest_ccw, overflow_program, restart_arguments_of, search_arguments}
 use Rattle.recovery.specs.Table.{Row, action_for}
 use Rattle.recovery.specs.Report.{Report}
@@ -65,10 +58,10 @@ unfoldable pub seek_allowed : Given → Address → Bool
 seek_allowed g a = on_pack g.last a && within g.extent a
 
 -- "a next CCW (not TIC to TIC)": the user's next non-TIC CCW behind one of the chain
-unfoldable pub on_next : {A : Type 0} → Fetched → A → (ℕ → Ccw → A) → A
-on_next (Broken l) y f = y
-on_next (Got (Restart a) c) y f = y
-on_next (Got (Chain a) c) y f = f a c
+unfoldable pub on_next : {A : Type 0} → Result (Location × Ccw) Location → A → (ℕ → Ccw → A) → A
+on_next (Err l) y f = y
+on_next (Ok (Restart a, c)) y f = y
+on_next (Ok (Chain a, c)) y f = f a c
 
 -- "tag 12 a 06, 0E or 1E", "Question 9 takes 86, 8E and 9E too": a command that reads a data area
 unfoldable pub reads_data : Command → Bool
@@ -84,9 +77,9 @@ reads_data SearchIdMultitrack = false
 reads_data (ReadMultitrack k) = k.datas
 
 -- "mask bit 7 (PCI fetch mode) on"
-unfoldable pub fetch_mode : FileMask → Bool
-fetch_mode Unset = false
-fetch_mode (Set m) = bit_on 7 m
+unfoldable pub fetch_mode : Option ℕ → Bool
+fetch_mode None = false
+fetch_mode (Some m) = bit_on 7 m
 
 -- "incorrect length or no CC, 'finished' with the CSW less unit check"
 unfoldable pub less_unit_check : Csw → Csw
@@ -150,11 +143,11 @@ reached_head sense = get_or sense 6 0 % 32
 
 -- "For 10A the cylinder comes from the user's argument and the head from sense byte 6"; "A head above 18 there means that report and chain disagree"
 unfoldable pub reached_track : (sense : List ℕ) → Address → Option Address
-reached_track sense a = pick (leb (reached_head sense) 18) (some (record { cylinder = a.cylinder; head = reached_head sense })) none
+reached_track sense a = pick (leb (reached_head sense) 18) (Some (record { cylinder = a.cylinder; head = reached_head sense })) None
 
 -- "Build .. 11 as 10A": the track behind that one
 unfoldable pub behind_reached : (sense : List ℕ) → Address → Option Address
-behind_reached sense a = opt (reached_track sense a) none (λ b. some (next_track b))
+behind_reached sense a = opt (reached_track sense a) None (λ b. Some (next_track b))
 
 -- "If that CCW is a seek"
 unfoldable pub is_seek : Command → Bool
@@ -171,7 +164,7 @@ is_seek (ReadMultitrack k) = false
 
 -- "tag 14 present with first two bytes 0, cylinder and head on the pack", of a pack with this last cylinder
 unfoldable pub user_track : (last : ℕ) → Option (List ℕ) → Option Address
-user_track last seek = opt seek none (λ s. pick (eqb (be16_at s 0) 0 && on_pack last (sought s)) (some (sought s)) none)
+user_track last seek = opt seek None (λ s. pick (eqb (be16_at s 0) 0 && on_pack last (sought s)) (Some (sought s)) None)
 
 module _ (g : Given) (r : Report) (st : List ℕ) where
   -- ---- action 5
@@ -226,7 +219,7 @@ module _ (g : Given) (r : Report) (st : List ℕ) where
 
   -- "The interrupted CCW is the one 8 below the CSW's address": "the interrupted CCW in the chain and no TIC"
   unfoldable pub interrupted : Option Ccw
-  interrupted = pick (leb 8 r.csw.address) (opt (fetch_in g.chain (r.csw.address - 8)) none (λ c. pick (is_tic c) none (some c))) none
+  interrupted = pick (leb 8 r.csw.address) (opt (fetch_in g.chain (r.csw.address - 8)) None (λ c. pick (is_tic c) None (Some c))) None
 
   -- with both, or 9
   unfoldable pub with_track : (Address → Ccw → Recovery) → Recovery
@@ -257,11 +250,11 @@ module _ (g : Given) (r : Report) (st : List ℕ) where
   -- "tag 12 as action 5 does, sense 3 = 06": the read's first CCW
   unfoldable pub overflow_read : Option Ccw
   overflow_read =
-      opt (fetch_in g.chain r.first) none
-      (λ c. pick (reads_data (command_of c.command) && eqb (get_or r.sense 3 0) 0x06) (some c) none)
+      opt (fetch_in g.chain r.first) None
+      (λ c. pick (reads_data (command_of c.command) && eqb (get_or r.sense 3 0) 0x06) (Some c) None)
 
   -- "Build 9 as 8 and 11 as 10A, with restart CCW 1 before the last TIC."; "A seek outside the extent gives action 2."
-  unfoldable pub overflow_restart : Kind → Address → Ccw → LastTic → Recovery
+  unfoldable pub overflow_restart : Kind → Address → Ccw → Option ℕ → Recovery
   overflow_restart k a c tic =
       pick (seek_allowed g a)
       (restarts k (overflow_program r.mask (rest_ccw c r.csw.count) tic) (restart_arguments_of a r.mask 0 []) st)
@@ -271,8 +264,8 @@ module _ (g : Given) (r : Report) (st : List ℕ) where
   unfoldable pub from_interrupted : Kind → Address → Location → Ccw → Recovery
   from_interrupted k a l c =
       pick (chains_data c || chains_command c)
-      (on_next (resolve (only_chain g.chain) l (next l)) (refused Question.Agreement) (λ to d. overflow_restart k a c (To to)))
-      (overflow_restart k a c Absent)
+      (on_next (resolve (only_chain g.chain) l (next l)) (refused Question.Agreement) (λ to d. overflow_restart k a c (Some to)))
+      (overflow_restart k a c None)
 
   -- "from tag 12 a walk of the restart displacement that ends without program check at the CSW's CCW and count, not 0; else number 9"
   unfoldable pub overflow_walk : Kind → Address → Walk → Recovery
@@ -290,7 +283,7 @@ module _ (g : Given) (r : Report) (st : List ℕ) where
 
   -- "9 as 8": "Seek argument with cylinder plus 1, head 0"
   unfoldable pub action_nine : Recovery
-  action_nine = overflow nine (λ u. some (next_cylinder u))
+  action_nine = overflow nine (λ u. Some (next_cylinder u))
 
   -- "11 as 10A"
   unfoldable pub action_eleven : Recovery

@@ -1,6 +1,5 @@
 -- The error table (document 01, "Error table, first row that has all its bits on (byte.bit)").
-use Rattle.std.specs.Prelude.{ℕ, Bool, ◌&&◌, List, [], ◌∷◌, eqb, get_or}
-use Rattle.std.proofs.Math.Option.{Option, none, some}
+use Rattle.std.specs.Prelude.{ℕ, Bool, ◌&&◌, List, [], ◌∷◌, eqb, get_or, Option, Some, None}
 use Rattle.std.specs.Int.Bits.{bit_and}
 use Rattle.base.specs.Choice.{pick}
 
@@ -56,5 +55,5 @@ fits sense r = covers (get_or sense 0 0) r.zero && covers (get_or sense 1 0) r.o
 
 -- the action of the first row that fits
 unfoldable pub action_for : List Row → List ℕ → Option ℕ
-action_for [] sense = none
-action_for (r ∷ rs) sense = pick (fits sense r) (some r.action) (action_for rs sense)
+action_for [] sense = None
+action_for (r ∷ rs) sense = pick (fits sense r) (Some r.action) (action_for rs sense)

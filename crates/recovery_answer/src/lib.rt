@@ -44,7 +44,7 @@ pub fn put(answer: &mut [u8], r: Recovered) -> u8
 {
     match r {
         Recovered::Refused(q) => {
-            return questions::number(q);
+            return u8::from(q);
         }
         Recovered::ActionOne => {
             return put_with(answer, 1, 0, no_csw());
@@ -62,7 +62,7 @@ pub fn put(answer: &mut [u8], r: Recovered) -> u8
             return put_with(answer, 5, 0x05, w);
         }
         Recovered::Restart(k) => {
-            return put_with(answer, 6, recovered::action_number(k), no_csw());
+            return put_with(answer, 6, u8::from(k), no_csw());
         }
     }
 }

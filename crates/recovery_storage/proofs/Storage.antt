@@ -1,18 +1,19 @@
 -- Recovery changes no byte of storage but where a pattern byte of the report stayed: `patches_in_place`.
 --   one_place    a pattern byte stays at one place at most, so that these places are three at most
 --   unpatched    storage that is as it was
+use Rattle.std.specs.Prelude.{Option, Some, None}
 use Prim.Native.Nat.{ℕ, zero, suc, ◌+◌, ◌-◌, ◌<◌, ◌≤◌}
 use native.Mathlib.Nat.{min-le_left}
 use native.Mathlib.Omega.{arith}
 use mathlib.Core.Path.{◌≡◌, refl, ap, sym, ◌∙◌}
 use mathlib.Core.Logic.{◌≢◌}
 use mathlib.Core.Bool.{Bool, true, false, ◌&&◌, not}
-use mathlib.Core.Option.{Option, none, some, none-ne-some}
 use mathlib.Core.List.{List, [], ◌∷◌, ◌++◌}
 use lib.Dec.{eqb, ltb, leb}
 use lib.ListN.{length, get_or, drop, replicate, length-take, get_or-eq_default}
 use lib.Seq.{get_or-set_other, get_or-take}
 use borrow.Author.Tests.{eqb-true, eqb-false, eq-eqb, ltb-true, ltb-false, leb-true}
+use Rattle.std.proofs.lemmas.Option.{none-some}
 use Rattle.base.specs.Bytes.{part}
 use Rattle.base.proofs.Choice.{both_if, split, never, some_is, and_left, and_right}
 use Rattle.channel.specs.declared.Ccw.{Ccw}
@@ -30,40 +31,40 @@ use Rattle.recovery.proofs.Answers.{five_by, recover_by}
 -- ---- the correction of a byte where no pattern byte stayed, or 0
 
 module _ (a : ℕ) where
-  mend_elsewhere : (q : Option ℕ) (x : ℕ) (st : List ℕ) → q ≢ some a → get_or (mend q x st) a 0 ≡ get_or st a 0
+  mend_elsewhere : (q : Option ℕ) (x : ℕ) (st : List ℕ) → q ≢ Some a → get_or (mend q x st) a 0 ≡ get_or st a 0
   unfolding mend
-  mend_elsewhere none x st h = refl
-  mend_elsewhere (some b) x st h = get_or-set_other st b a _ 0 (λ e. h (ap some (sym e)))
+  mend_elsewhere None x st h = refl
+  mend_elsewhere (Some b) x st h = get_or-set_other st b a _ 0 (λ e. h (ap Some (sym e)))
 
-  never_later : (ps : List (Option ℕ)) (m : ℕ) → overwritten (some a) ps ≡ false → get_or ps m none ≢ some a
+  never_later : (ps : List (Option ℕ)) (m : ℕ) → overwritten (Some a) ps ≡ false → get_or ps m None ≢ Some a
   unfolding same_place
-  never_later [] m h = none-ne-some a
-  never_later (p ∷ ps) zero h = λ e. never (sym (not_here (some a) p ps h) ∙ ap (same_place (some a)) e ∙ eq-eqb a a refl)
-  never_later (p ∷ ps) (suc m) h = never_later ps m (not_later (some a) p ps h)
+  never_later [] m h = none-some a
+  never_later (p ∷ ps) zero h = λ e. never (sym (not_here (Some a) p ps h) ∙ ap (same_place (Some a)) e ∙ eq-eqb a a refl)
+  never_later (p ∷ ps) (suc m) h = never_later ps m (not_later (Some a) p ps h)
 
   stays_behind : (p : Option ℕ) (ps : List (Option ℕ)) (j : ℕ) → StayedAt ps j a → StayedAt (p ∷ ps) (suc j) a
   stays_behind p ps j s = record { went = s.went; last = later }
     where
-      later : (m : ℕ) → suc j < m → get_or (p ∷ ps) m none ≢ some a
+      later : (m : ℕ) → suc j < m → get_or (p ∷ ps) m None ≢ Some a
       later zero h = absurd (omega arith)
       later (suc m) h = s.last m (omega arith)
 
-  stays_first : (p : Option ℕ) (ps : List (Option ℕ)) → p ≡ some a → overwritten p ps ≡ false → StayedAt (p ∷ ps) 0 a
+  stays_first : (p : Option ℕ) (ps : List (Option ℕ)) → p ≡ Some a → overwritten p ps ≡ false → StayedAt (p ∷ ps) 0 a
   stays_first p ps e h = record { went = e; last = later }
     where
-      later : (m : ℕ) → 0 < m → get_or (p ∷ ps) m none ≢ some a
+      later : (m : ℕ) → 0 < m → get_or (p ∷ ps) m None ≢ Some a
       later zero n = absurd (omega arith)
       later (suc m) n = never_later ps m (ap (λ q. overwritten q ps) (sym e) ∙ h)
 
   -- by whether the byte went to a
-  mend_kept : (p : Option ℕ) (x : ℕ) (st : List ℕ) → (p ≡ some a → x ≡ 0) → get_or (mend p x st) a 0 ≡ get_or st a 0
+  mend_kept : (p : Option ℕ) (x : ℕ) (st : List ℕ) → (p ≡ Some a → x ≡ 0) → get_or (mend p x st) a 0 ≡ get_or st a 0
   mend_kept p x st h = by p refl
     where
       by : (q : Option ℕ) → p ≡ q → get_or (mend p x st) a 0 ≡ get_or st a 0
-      by none e = mend_elsewhere p x st (λ f. none-ne-some a (sym e ∙ f))
-      by (some b) e =
+      by None e = mend_elsewhere p x st (λ f. none-some a (sym e ∙ f))
+      by (Some b) e =
           split (eqb b a)
-          (λ t. rw (h (e ∙ ap some (eqb-true b a t)), mend_none p st))
+          (λ t. rw (h (e ∙ ap Some (eqb-true b a t)), mend_none p st))
           (λ t. mend_elsewhere p x st (λ f. eqb-false b a t (some_is (sym e ∙ f))))
 
   corrected_kept : (ps : List (Option ℕ)) (xs st : List ℕ) → ((j : ℕ) → StayedAt ps j a → get_or xs j 0 ≡ 0) → get_or (corrected ps xs st) a 0 ≡ get_or st a 0
@@ -121,7 +122,7 @@ module _ (g : Given) (r : Report) (st : List ℕ) where
   as_it_was : (q : Recovery) → storage_behind q st ≡ st → Keeps q
   as_it_was q e = unpatched (PatternStayed g r st) (corrects q) st (storage_behind q st) e
 
-  module _ (c : Ccw) (first : fetch_in g.chain r.first ≡ some c) (ok : sensible r.sense ≡ true) (ps : List (Option ℕ)) (l : Location) (d : Ccw) (left : ℕ) (over : Bool)
+  module _ (c : Ccw) (first : fetch_in g.chain r.first ≡ Some c) (ok : sensible r.sense ≡ true) (ps : List (Option ℕ)) (l : Location) (d : Ccw) (left : ℕ) (over : Bool)
       (w : retrace g r st c ≡ walked ps l d left over) where
     correction_kept : (a : ℕ) → (PatternStayed g r st a → ⊥) → get_or (correction r.sense ps st) a 0 ≡ get_or st a 0
     unfolding correction places_of

@@ -1,6 +1,5 @@
 -- Which bytes of storage recovery changes: "store into none but the three at most concerned" (document 02, "Patch without copying out").
-use Rattle.std.specs.Prelude.{ℕ, ◌+◌, ◌<◌, ◌≡◌, ◌≢◌, Bool, true, false, List, length, get_or}
-use Rattle.std.proofs.Math.Option.{Option, none, some}
+use Rattle.std.specs.Prelude.{ℕ, ◌+◌, ◌<◌, ◌≡◌, ◌≢◌, Bool, true, false, List, length, get_or, Option, Some, None}
 use Rattle.channel.specs.declared.Ccw.{Ccw}
 use Rattle.channel.specs.Ccw.{fetch_in}
 use Rattle.channel.specs.Walk.{Walk, walked, checked}
@@ -45,8 +44,8 @@ places_of (checked ps l) = ps
 -- Byte j of a read stayed at a, where the read's bytes went to the places ps: it went there, and no later byte did. "Skipped bytes, bytes past
 -- the counts, and bytes overwritten later by the same read are left."
 pub record StayedAt (ps : List (Option ℕ)) (j a : ℕ) : Type 0 where
-  pub went : get_or ps j none ≡ some a
-  pub last : (m : ℕ) → j < m → get_or ps m none ≢ some a
+  pub went : get_or ps j None ≡ Some a
+  pub last : (m : ℕ) → j < m → get_or ps m None ≢ Some a
 
 -- A pattern byte of the report stayed at a.
 pub record PatternStayed (g : Given) (r : Report) (st : List ℕ) (a : ℕ) : Type 0 where
@@ -57,7 +56,7 @@ pub record PatternStayed (g : Given) (r : Report) (st : List ℕ) (a : ℕ) : Ty
   pub below : which < error_displacement r.sense
   -- of the read whose first CCW is this one
   pub ccw : Ccw
-  pub first : fetch_in g.chain r.first ≡ some ccw
+  pub first : fetch_in g.chain r.first ≡ Some ccw
   -- "belongs to byte restart minus error displacement plus i of the read"
   pub stayed : StayedAt (places_of (retrace g r st ccw)) (pattern_from r.sense + which) a
 

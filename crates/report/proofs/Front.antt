@@ -3,12 +3,12 @@
 --   plain                                   what the three fields say, before the optional ones
 --   csw_is                                  a CSW from its eight bytes
 --   long                                    the length that the three fields take
+use Rattle.std.specs.Prelude.{None}
 use Prim.Native.Nat.{ℕ, ◌+◌, ◌<◌, ◌≤◌}
 use native.Mathlib.Nat.{add-zero}
 use native.Mathlib.Omega.{arith}
 use mathlib.Core.Path.{◌≡◌, refl, sym, ◌∙◌}
 use mathlib.Core.Bool.{Bool, true, false, ◌&&◌}
-use mathlib.Core.Option.{none}
 use mathlib.Core.List.{List, [], ◌∷◌}
 use lib.Dec.{eqb}
 use lib.ListN.{length, get_or}
@@ -17,11 +17,10 @@ use Rattle.base.specs.Choice.{pick, opt}
 use Rattle.base.specs.Bytes.{be16_at, be24_at, part}
 use Rattle.base.proofs.Choice.{found, opt_const}
 use Rattle.base.proofs.Bytes.{get_or-part, be16-part}
-use Rattle.fields.specs.declared.Wanted.TheVariants.{Missing}
+use Rattle.fields.specs.declared.Field.{Field}
 use Rattle.fields.specs.Fields as Spec
 use Rattle.fields.specs.Fields.{fields_at}
 use Rattle.channel.specs.declared.Csw.{Csw}
-use Rattle.drive.specs.declared.FileMask.TheVariants.{Unset}
 use Rattle.recovery.specs.Report.{Report, csw_from, is_field, with_mask, from_fields, report_from}
 use Rattle.report.specs.Reported.{sized_at}
 use Rattle.report.proofs.Places.{field_of, There, on_found, on_missing, no_report, is_field_lem, first_byte}
@@ -32,88 +31,88 @@ and_false false = refl
 
 -- ---- what fields that begin otherwise come to
 
-not_sense : (f : Spec.Field) (fs : List Spec.Field) → is_field f 0x10 24 ≡ false → from_fields (f ∷ fs) ≡ none
+not_sense : (f : Spec.Field) (fs : List Spec.Field) → is_field f 0x10 24 ≡ false → from_fields (f ∷ fs) ≡ None
 unfolding from_fields pick
 not_sense f [] h = refl
 not_sense f (b ∷ []) h = refl
 not_sense f (b ∷ c ∷ fs) h = rw h
 
-not_csw : (a f : Spec.Field) (fs : List Spec.Field) → is_field f 0x11 8 ≡ false → from_fields (a ∷ f ∷ fs) ≡ none
+not_csw : (a f : Spec.Field) (fs : List Spec.Field) → is_field f 0x11 8 ≡ false → from_fields (a ∷ f ∷ fs) ≡ None
 unfolding from_fields pick
 not_csw a f [] h = refl
 not_csw a f (c ∷ fs) h = rw (h, and_false (is_field a 0x10 24))
 
-not_first : (a b f : Spec.Field) (fs : List Spec.Field) → is_field f 0x12 2 ≡ false → from_fields (a ∷ b ∷ f ∷ fs) ≡ none
+not_first : (a b f : Spec.Field) (fs : List Spec.Field) → is_field f 0x12 2 ≡ false → from_fields (a ∷ b ∷ f ∷ fs) ≡ None
 unfolding from_fields pick
 not_first a b f fs h = rw (h, and_false (is_field a 0x10 24 && (is_field b 0x11 8 && eqb (get_or b.contents 0 0) 0)))
 
 -- ---- the report
 
 abbrev plain_of : List ℕ → Csw → ℕ → Report
-plain_of sense csw first = record { sense = sense; csw = csw; first = first; mask = Unset; seek = none; tries = 0 }
+plain_of sense csw first = record { sense = sense; csw = csw; first = first; mask = None; seek = None; tries = 0 }
 
 module _ (s : List ℕ) where
-  pub no_sense : sized_at s 0 0x10 24 ≡ Missing → none ≡ report_from s
+  pub no_sense : sized_at s 0 0x10 24 ≡ None → None ≡ report_from s
   unfolding report_from from_fields
   no_sense e = sym (on_missing s 0 0x10 24 from_fields no_report e (λ g. refl) not_sense ∙ opt_const (fields_at s 0) (λ fs g. refl))
 
-  module _ {x a : ℕ} (w0 : There s 0 0x10 24 x a) where
+  module _ {x : Field} (w0 : There s 0 0x10 24 x) where
     -- the fields behind the sense bytes
-    sensed : report_from s ≡ opt (fields_at s a) none (λ fs. from_fields (field_of s 0x10 x a ∷ fs))
+    sensed : report_from s ≡ opt (fields_at s x.next) None (λ fs. from_fields (field_of s x ∷ fs))
     unfolding report_from
     sensed = on_found s 0 0x10 24 from_fields w0
 
-    pub no_csw : sized_at s a 0x11 8 ≡ Missing → none ≡ report_from s
+    pub no_csw : sized_at s x.next 0x11 8 ≡ None → None ≡ report_from s
     unfolding from_fields
     no_csw e =
         sym
         (sensed
-        ∙ on_missing s a 0x11 8 (λ fs. from_fields (field_of s 0x10 x a ∷ fs)) no_report e (λ g. refl) (not_csw (field_of s 0x10 x a))
-        ∙ opt_const (fields_at s a) (λ fs g. refl))
+        ∙ on_missing s x.next 0x11 8 (λ fs. from_fields (field_of s x ∷ fs)) no_report e (λ g. refl) (not_csw (field_of s x))
+        ∙ opt_const (fields_at s x.next) (λ fs g. refl))
 
-    module _ {w b : ℕ} (w1 : There s a 0x11 8 w b) where
-      told : report_from s ≡ opt (fields_at s b) none (λ fs. from_fields (field_of s 0x10 x a ∷ field_of s 0x11 w b ∷ fs))
-      told = sensed ∙ on_found s a 0x11 8 (λ fs. from_fields (field_of s 0x10 x a ∷ fs)) w1
+    module _ {w : Field} (w1 : There s x.next 0x11 8 w) where
+      told : report_from s ≡ opt (fields_at s w.next) None (λ fs. from_fields (field_of s x ∷ field_of s w ∷ fs))
+      told = sensed ∙ on_found s x.next 0x11 8 (λ fs. from_fields (field_of s x ∷ fs)) w1
 
-      pub no_first : sized_at s b 0x12 2 ≡ Missing → none ≡ report_from s
+      pub no_first : sized_at s w.next 0x12 2 ≡ None → None ≡ report_from s
       unfolding from_fields
       no_first e =
           sym
           (told
-          ∙ on_missing s b 0x12 2 (λ fs. from_fields (field_of s 0x10 x a ∷ field_of s 0x11 w b ∷ fs)) no_report e (λ g. refl)
-          (not_first (field_of s 0x10 x a) (field_of s 0x11 w b))
-          ∙ opt_const (fields_at s b) (λ fs g. refl))
+          ∙ on_missing s w.next 0x12 2 (λ fs. from_fields (field_of s x ∷ field_of s w ∷ fs)) no_report e (λ g. refl)
+          (not_first (field_of s x) (field_of s w))
+          ∙ opt_const (fields_at s w.next) (λ fs g. refl))
 
-      module _ {f at : ℕ} (w2 : There s b 0x12 2 f at) where
-        all_three : report_from s ≡ opt (fields_at s at) none (λ fs. from_fields (field_of s 0x10 x a ∷ field_of s 0x11 w b ∷ field_of s 0x12 f at ∷ fs))
-        all_three = told ∙ on_found s b 0x12 2 (λ fs. from_fields (field_of s 0x10 x a ∷ field_of s 0x11 w b ∷ fs)) w2
+      module _ {f : Field} (w2 : There s w.next 0x12 2 f) where
+        all_three : report_from s ≡ opt (fields_at s f.next) None (λ fs. from_fields (field_of s x ∷ field_of s w ∷ field_of s f ∷ fs))
+        all_three = told ∙ on_found s w.next 0x12 2 (λ fs. from_fields (field_of s x ∷ field_of s w ∷ fs)) w2
 
-        pub csw_wrong : (get_or s w 0 ≡ 0 → ⊥) → none ≡ report_from s
+        pub csw_wrong : (get_or s w.start 0 ≡ 0 → ⊥) → None ≡ report_from s
         unfolding from_fields pick
         csw_wrong h =
             sym
             (all_three
-            ∙ opt_const (fields_at s at)
+            ∙ opt_const (fields_at s f.next)
             (λ fs g. rw (is_field_lem s w0, is_field_lem s w1, first_byte s w1 (omega arith), ne_eqb _ _ h)))
 
-        pub plain : get_or s w 0 ≡ 0 → (k : Csw) → k ≡ csw_from (part s w (w + 8)) → (n : ℕ) → n ≡ be16_at s f
-            → opt (fields_at s at) none (with_mask (plain_of (part s 3 27) k n)) ≡ report_from s
+        pub plain : get_or s w.start 0 ≡ 0 → (k : Csw) → k ≡ csw_from (part s w.start (w.start + 8)) → (n : ℕ) → n ≡ be16_at s f.start
+            → opt (fields_at s f.next) None (with_mask (plain_of (part s 3 27) k n)) ≡ report_from s
         unfolding from_fields pick
         plain h k e n g =
-            let sense : part s x a ≡ part s 3 27 = rw (← x_is, ← a_is) in
-            let csw : csw_from (part s w b) ≡ k = rw w1.next_is (sym e) in
-            let first : be16_at (part s f at) 0 ≡ n = be16-part s f at 0 (omega (arith, w2.next_is)) ∙ rw add-zero (sym g) in
+            let sense : part s x.start x.next ≡ part s 3 27 = rw (← start_is, ← next_is) in
+            let csw : csw_from (part s w.start w.next) ≡ k = rw w1.next_is (sym e) in
+            let first : be16_at (part s f.start f.next) 0 ≡ n = be16-part s f.start f.next 0 (omega (arith, w2.next_is)) ∙ rw add-zero (sym g) in
             sym
             (all_three
-            ∙ found (fields_at s at) refl
+            ∙ found (fields_at s f.next) refl
             (λ fs. rw (is_field_lem s w0, is_field_lem s w1, first_byte s w1 (omega arith), h, is_field_lem s w2)
             (λ i. with_mask (plain_of (sense i) (csw i) (first i)) fs)))
           where
-            x_is : x ≡ 3
-            x_is = w0.start_is
+            start_is : x.start ≡ 3
+            start_is = w0.start_is
 
-            a_is : a ≡ 27
-            a_is = omega (arith, w0.next_is, w0.start_is)
+            next_is : x.next ≡ 27
+            next_is = omega (arith, w0.next_is, w0.start_is)
 
         -- ---- where the fields lie
 

@@ -1,37 +1,28 @@
 -- What a report tells recovery, as the code has it: by value.
-use Rattle.std.specs.Prelude.{ℕ, ◌+◌, ◌<◌, ◌≡◌, List, length, get_or}
-use Rattle.std.proofs.Math.Option.{Option, none, some}
+use Rattle.std.specs.Prelude.{ℕ, ◌+◌, ◌<◌, ◌≡◌, List, length, get_or, Option, Some, None}
 use Rattle.base.specs.Bytes.{part}
 use Rattle.address.specs.declared.Address.{Address}
 use Rattle.location.specs.Low.{CswLow}
 use Rattle.recovery.specs.Report.{Report}
 use Rattle.recovery.specs.Recovery.{user_track, reached_head, cut_track, restart_displacement, error_displacement}
-use Rattle.report.specs.declared.Seek.{Seek}
-use Rattle.report.specs.declared.User.{User}
-use Rattle.report.specs.declared.User.TheVariants.{Track, Missing}
 use Rattle.report.specs.declared.Sense.{Sense}
 use Rattle.report.specs.declared.Told.{Told}
 use Rattle.report.specs.Reported.{seek_of}
 
 -- ---- the user's track
 
--- as the definitions have it
-abbrev pub user_of : User → Option Address
-user_of Missing = none
-user_of (Track a) = some a
-
 -- its numbers fit their bytes
-abbrev pub UserLow : User → Type 0
-UserLow Missing = Unit {0}
-UserLow (Track a) = (a.cylinder < 0x10000) × (a.head < 0x10000)
+abbrev pub UserLow : Option Address → Type 0
+UserLow None = Unit {0}
+UserLow (Some a) = (a.cylinder < 0x10000) × (a.head < 0x10000)
 
 -- of the six bytes of a report from a place on, on a pack with this last cylinder
-abbrev pub UserAt : (last : ℕ) → List ℕ → ℕ → User → Type 0
-UserAt last report at user = user_of user ≡ user_track last (some (part report at (at + 6)))
+abbrev pub UserAt : (last : ℕ) → List ℕ → ℕ → Option Address → Type 0
+UserAt last report at user = user ≡ user_track last (Some (part report at (at + 6)))
 
 -- of a report's seek argument, if it has one
-abbrev pub UserOf : (last : ℕ) → List ℕ → Seek → User → Type 0
-UserOf last report seek user = user_of user ≡ user_track last (seek_of report seek)
+abbrev pub UserOf : (last : ℕ) → List ℕ → Option ℕ → Option Address → Type 0
+UserOf last report seek user = user ≡ user_track last (seek_of report seek)
 
 -- ---- the whole
 
@@ -59,7 +50,7 @@ pub record Tells (last : ℕ) (r : Report) (t : Told) : Type 0 where
   pub csw : r.csw ≡ t.csw
   pub first : r.first ≡ t.first
   pub mask : r.mask ≡ t.mask
-  pub user : user_track last r.seek ≡ user_of t.user
+  pub user : user_track last r.seek ≡ t.user
   pub tries : r.tries ≡ t.tries
 
 -- its CSW fits its bytes, and so does the user's track, if there is one

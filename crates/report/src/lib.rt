@@ -4,25 +4,15 @@
 ghost use Rattle.std.specs.Prelude.{◌≡◌, ◌+◌, ◌%◌, ◌<◌, ◌≤◌, length};
 ghost use Rattle.base.specs.Bytes.{part};
 ghost use Rattle.address.specs.Model.{last_of};
-ghost use Rattle.drive.specs.declared.FileMask.TheVariants.{Unset};
 ghost use Rattle.recovery.specs.Report.{report_from, csw_from, with_mask, with_seek, with_tries};
-ghost use Rattle.report.specs.declared.Seek.TheVariants.{Absent};
-ghost use Rattle.report.specs.Reported.{sized_at, so_far, report_of, reported_of, Reads, SeekInside, Bounds, Bounded};
+ghost use Rattle.report.specs.Reported.{sized_at, report_of, reported_of, Reads, SeekInside, Bounds, Bounded};
 ghost use Rattle.report.specs.Told.{UserAt, UserOf, UserLow, SenseTells, Tells, ToldLow};
 
 use address::{Address, Model};
 use base::{FromEnd, FromFront};
 use channel::Csw;
-use drive::FileMask;
-use fields::Wanted;
+use fields::Field;
 use questions::Question;
-
-// The place of the user's seek argument, six bytes.
-#[derive(Clone, Copy)]
-pub enum Seek {
-    At(usize),
-    Absent,
-}
 
 // What a report says besides its sense bytes, which stand at 3 to 26: the CSW, the address of the read's first CCW, the file
 // mask, the user's seek argument, and the tries made.
@@ -30,97 +20,75 @@ pub enum Seek {
 pub struct Report {
     pub csw: Csw,
     pub first: usize,
-    pub mask: FileMask,
-    pub seek: Seek,
+    pub mask: Option<u8>,
+    pub seek: Option<usize>,
     pub tries: usize,
 }
 
-// A report, or the refusal by question 4.
-#[derive(Clone, Copy)]
-pub enum Reported {
-    Well(Report),
-    Refused(Question),
-}
-
 // The field of one tag at a place, if its contents have n bytes.
-fn sized_at(report: &[u8], at: usize, tag: u8, n: usize) -> Wanted
+fn sized_at(report: &[u8], at: usize, tag: u8, n: usize) -> Option<Field>
     ensures { result ≡ sized_at report.now at tag n }
 {
-    let Wanted::Found { start, next } = fields::wanted_at(report, at, tag) else {
-        return Wanted::Missing;
-    };
-    if next - start != n {
-        return Wanted::Missing;
+    let f = fields::wanted_at(report, at, tag)?;
+    if f.next - f.start != n {
+        return None;
     }
-    Wanted::Found {
-        start: start,
-        next: next,
-    }
+    Some(f)
 }
 
 // The tries made, if a field says so, and nothing behind it.
-fn with_tries(
-    report: &[u8],
-    at: usize,
-    csw: Csw,
-    first: usize,
-    mask: FileMask,
-    seek: Seek,
-) -> Reported
-    requires { Bounds report.now (so_far csw first mask seek) }
-    ensures reads { Reads with_tries report.now at (so_far csw first mask seek) result }
+fn with_tries(report: &[u8], at: usize, so_far: Report) -> Result<Report, Question>
+    requires { Bounds report.now so_far }
+    ensures reads { Reads with_tries report.now at so_far result }
     ensures bounded { Bounded report.now result }
 {
     if report.len() <= at {
-        return Reported::Well(Report {
-            csw: csw,
-            first: first,
-            mask: mask,
-            seek: seek,
-            tries: 0,
-        });
+        return Ok(so_far);
     }
-    let Wanted::Found { start, next } = sized_at(report, at, 0x15, 1) else {
-        return Reported::Refused(Question::Report);
-    };
-    if next < report.len() {
-        return Reported::Refused(Question::Report);
+    let tries = sized_at(report, at, 0x15, 1).ok_or(Question::Report)?;
+    if tries.next < report.len() {
+        return Err(Question::Report);
     }
-    Reported::Well(Report {
-        csw: csw,
-        first: first,
-        mask: mask,
-        seek: seek,
-        tries: base::byte(report, start),
+    Ok(Report {
+        tries: base::byte(report, tries.start),
+        ..so_far
     })
 }
 
 // The user's seek argument, if there is one, and the fields behind it.
-fn with_seek(report: &[u8], at: usize, csw: Csw, first: usize, mask: FileMask) -> Reported
-    requires { Bounds report.now (so_far csw first mask Absent) }
-    ensures reads { Reads with_seek report.now at (so_far csw first mask Absent) result }
+fn with_seek(report: &[u8], at: usize, so_far: Report) -> Result<Report, Question>
+    requires { Bounds report.now so_far }
+    ensures reads { Reads with_seek report.now at so_far result }
     ensures bounded { Bounded report.now result }
 {
-    let Wanted::Found { start, next } = sized_at(report, at, 0x14, 6) else {
-        return with_tries(report, at, csw, first, mask, Seek::Absent);
+    let Some(seek) = sized_at(report, at, 0x14, 6) else {
+        return with_tries(report, at, so_far);
     };
-    with_tries(report, next, csw, first, mask, Seek::At(start))
+    let sought = Report {
+        seek: Some(seek.start),
+        ..so_far
+    };
+    with_tries(report, seek.next, sought)
 }
 
 // The file mask, if one was set, and the fields behind it.
-fn with_mask(report: &[u8], at: usize, csw: Csw, first: usize) -> Reported
-    requires { Bounds report.now (so_far csw first Unset Absent) }
-    ensures reads { Reads with_mask report.now at (so_far csw first Unset Absent) result }
+fn with_mask(report: &[u8], at: usize, so_far: Report) -> Result<Report, Question>
+    requires { Bounds report.now so_far }
+    ensures reads { Reads with_mask report.now at so_far result }
     ensures bounded { Bounded report.now result }
 {
-    let Wanted::Found { start, next } = sized_at(report, at, 0x13, 1) else {
-        return with_seek(report, at, csw, first, FileMask::Unset);
+    let Some(mask) = sized_at(report, at, 0x13, 1) else {
+        return with_seek(report, at, so_far);
     };
-    let m = report[start];
+    let m = report[mask.start];
     if !drive::settable(m) {
-        return Reported::Refused(Question::Report);
+        return Err(Question::Report);
     }
-    with_seek(report, next, csw, first, FileMask::Set(m))
+    let masked = Report {
+        mask: Some(m),
+        ..so_far
+    };
+    with_seek(report, mask.next, masked)
 }
 
 // The CSW in eight bytes of the report.
@@ -139,35 +107,24 @@ fn csw_in(report: &[u8], at: usize) -> Csw
 }
 
 // The report that bytes are, or the refusal by question 4.
-pub fn read(report: &[u8]) -> Reported
+pub fn read(report: &[u8]) -> Result<Report, Question>
     ensures value { reported_of report.now result ≡ report_from report.now }
     ensures bounded { Bounded report.now result }
 {
-    let Wanted::Found {
-        start: _,
-        next: second,
-    } = sized_at(report, 0, 0x10, 24)
-    else {
-        return Reported::Refused(Question::Report);
-    };
-    let Wanted::Found {
-        start: csw,
-        next: third,
-    } = sized_at(report, second, 0x11, 8)
-    else {
-        return Reported::Refused(Question::Report);
-    };
-    let Wanted::Found {
-        start: first,
-        next: rest,
-    } = sized_at(report, third, 0x12, 2)
-    else {
-        return Reported::Refused(Question::Report);
-    };
-    if report[csw] != 0 {
-        return Reported::Refused(Question::Report);
+    let sense = sized_at(report, 0, 0x10, 24).ok_or(Question::Report)?;
+    let csw = sized_at(report, sense.next, 0x11, 8).ok_or(Question::Report)?;
+    let first = sized_at(report, csw.next, 0x12, 2).ok_or(Question::Report)?;
+    if report[csw.start] != 0 {
+        return Err(Question::Report);
     }
-    with_mask(report, rest, csw_in(report, csw), base::be16(report, first))
+    let so_far = Report {
+        csw: csw_in(report, csw.start),
+        first: base::be16(report, first.start),
+        mask: None,
+        seek: None,
+        tries: 0,
+    };
+    with_mask(report, first.next, so_far)
 }
 
 // ---- what it tells recovery
@@ -193,13 +150,6 @@ pub struct Sense {
     pub pattern2: u8,
 }
 
-// The track of the user's seek argument, if the report has one that names a track on the pack.
-#[derive(Clone, Copy)]
-pub enum User {
-    Track(Address),
-    Missing,
-}
-
 // What a report tells recovery, by value.
 #[derive(Clone, Copy)]
 pub struct Told {
@@ -207,39 +157,37 @@ pub struct Told {
     pub first: usize,
     pub tries: usize,
     pub sense: Sense,
-    pub mask: FileMask,
-    pub user: User,
+    pub mask: Option<u8>,
+    pub user: Option<Address>,
 }
 
 // The user's seek argument, six bytes of a report, on a pack of a model.
-fn user_track(m: Model, report: &[u8], at: usize) -> User
+fn user_track(m: Model, report: &[u8], at: usize) -> Option<Address>
     requires { at + 6 ≤ length report.now }
     ensures user_at { UserAt (last_of m) report.now at result }
     ensures user_low { UserLow result }
 {
     if base::be16(report, at) != 0 {
-        return User::Missing;
+        return None;
     }
     let a = Address {
         cylinder: base::be16(report, at + 2),
         head: base::be16(report, at + 4),
     };
     if !a.on_pack(m) {
-        return User::Missing;
+        return None;
     }
-    User::Track(a)
+    Some(a)
 }
 
 // The track of the user's seek argument in a report.
-fn user_of(m: Model, report: &[u8], seek: Seek) -> User
+fn user_of(m: Model, report: &[u8], seek: Option<usize>) -> Option<Address>
     requires { SeekInside report.now seek }
     ensures user_of { UserOf (last_of m) report.now seek result }
     ensures user_low { UserLow result }
 {
-    match seek {
-        Seek::At(a) => user_track(m, report, a),
-        Seek::Absent => User::Missing,
-    }
+    let at = seek?;
+    user_track(m, report, at)
 }
 
 // The head that the drive stood on: bits 3 to 7 of sense byte 6.
@@ -281,15 +229,12 @@ pub fn tell(m: Model, report: &[u8], r: Report) -> Told
     ensures tells { Tells (last_of m) (report_of report.now r) result }
     ensures told_low { ToldLow result }
 {
-    let csw = r.csw;
-    let mask = r.mask;
-    let seek = r.seek;
     Told {
         sense: sense_of(&report[3..27]),
-        csw: csw,
+        csw: r.csw,
         first: r.first,
-        mask: mask,
-        user: user_of(m, report, seek),
+        mask: r.mask,
+        user: user_of(m, report, r.seek),
         tries: r.tries,
     }
 }

@@ -6,10 +6,10 @@
 --   execute_five_a              5A: so was that of the next record other than R0, by a 12; the command has bit 3 off
 --   execute_five_a_multitrack   or by a 92; the command is an 86 or 8E
 --   execute_failed              and where a 92 fails: the 86 or 8E ends by the same unit check
+use Rattle.std.specs.Prelude.{Option, Some, None}
 use Prim.Native.Nat.{ℕ, zero, suc, ◌+◌, ◌-◌, ◌<◌}
 use mathlib.Core.Path.{◌≡◌, refl, sym, ◌∙◌}
 use mathlib.Core.Bool.{Bool, true, false, not}
-use mathlib.Core.Option.{Option, none, some}
 use mathlib.Core.List.{List}
 use lib.Dec.{eqb, ltb}
 use lib.ListN.{length}
@@ -24,7 +24,6 @@ use Rattle.channel.specs.declared.Ccw.{Ccw}
 use Rattle.channel.specs.declared.Location.{Location}
 use Rattle.channel.specs.Ccw.{argument}
 use Rattle.drive.specs.declared.Read.{Read}
-use Rattle.drive.specs.declared.FileMask.{FileMask}
 use Rattle.drive.specs.declared.Command.{Command}
 use Rattle.drive.specs.declared.Command.TheVariants.{NoOperation, Seek, SetMask, SetSector, SearchId, ReadHome, ReadRecord, SearchIdMultitrack, ReadMultitrack, Unlisted}
 use Rattle.drive.specs.Drive as Drive
@@ -139,21 +138,21 @@ counted x = both_if (Counted x) _ (λ on. omitted on (on_other x on)) (λ off. b
 
 -- the same behind a count area that was just passed and behind a whole record: drives that differ in that alone, or one unit check
 data Alike : Reached → Reached → Type 0 where
-  places : (a : Address) (m : FileMask) (j : ℕ) (p q : Bool) → Alike (reaches (placed a m j p)) (reaches (placed a m j q))
+  places : (a : Address) (m : Option ℕ) (j : ℕ) (p q : Bool) → Alike (reaches (placed a m j p)) (reaches (placed a m j q))
   checks : (k : Step.Check) → Alike (fails k) (fails k)
 
 -- The record that a read over n tracks comes to from place j of the track at a: the next one other than R0 from a place of the track at `at`.
-pub record Found (pack : List Track) (m : FileMask) (n : ℕ) (a : Address) (j : ℕ) : Type 0 where
+pub record Found (pack : List Track) (m : Option ℕ) (n : ℕ) (a : Address) (j : ℕ) : Type 0 where
   pub at : Address
   pub track : Track
   pub place : ℕ
   pub passed : Bool
-  pub there : track_in pack at ≡ some track
+  pub there : track_in pack at ≡ Some track
   pub inside : ahead track place < length track.records
   pub behind_area : Step.read_from pack n (placed a m j true) ≡ reaches (placed at m place passed)
   pub behind_record : Step.read_from pack n (placed a m j false) ≡ reaches (placed at m place false)
 
-pub data Ahead (pack : List Track) (m : FileMask) (n : ℕ) (a : Address) (j : ℕ) : Type 0 where
+pub data Ahead (pack : List Track) (m : Option ℕ) (n : ℕ) (a : Address) (j : ℕ) : Type 0 where
   finds : Found pack m n a j → Ahead pack m n a j
   ends : (k : Step.Check) → ((p : Bool) → Step.read_from pack n (placed a m j p) ≡ fails k) → Ahead pack m n a j
 
@@ -174,7 +173,7 @@ before_index t j h = by (eqb j 0) refl
         let more : j < length t.records = inside j (rw e at h) in
         rw (lt-ltb j (length t.records) more, e) more
 
-module _ (pack : List Track) (m : FileMask) where
+module _ (pack : List Track) (m : Option ℕ) where
   step_alike : (a : Address) (j : ℕ) → Alike (Step.stepped (placed a m j true)) (Step.stepped (placed a m j false))
   unfolding Drive.at_index Step.stepped Step.next_head
   step_alike a j = both (λ r. Alike r r) _ (both (λ r. Alike r r) _ (checks (Step.protected_step _)) (places _ m 0 false false)) (checks Step.end_of_cylinder)
@@ -184,8 +183,8 @@ module _ (pack : List Track) (m : FileMask) where
   search_alike a j = by (track_in pack a) refl
     where
       by : (o : Option Track) → track_in pack a ≡ o → Alike (Step.search_from pack (placed a m j true)) (Step.search_from pack (placed a m j false))
-      by none q = rw q (checks Step.not_found)
-      by (some t) q =
+      by None q = rw q (checks Step.not_found)
+      by (Some t) q =
           split (Drive.passes_index (length t.records) j)
           (λ e. rw (q, e) (step_alike a j))
           (λ e. rw (q, e) (places a m j true false))
@@ -196,8 +195,8 @@ module _ (pack : List Track) (m : FileMask) where
   ahead_of (suc n) a j = by (ahead_of n (record { cylinder = a.cylinder; head = a.head + 1 }) 0) (track_in pack a) refl
     where
       by : Ahead pack m n (record { cylinder = a.cylinder; head = a.head + 1 }) 0 → (o : Option Track) → track_in pack a ≡ o → Ahead pack m (suc n) a j
-      by later none q = ends Step.not_found (λ p. rw q)
-      by later (some t) q =
+      by later None q = ends Step.not_found (λ p. rw q)
+      by later (Some t) q =
           split (Drive.passes_index (length t.records) (Drive.past_zero j))
           (λ e.
           split (ltb a.head 18)
@@ -232,26 +231,26 @@ module _ (pack : List Track) (m : FileMask) where
 
 module _ (w : Setting) (l : Location) (c : Ccw) (st : List ℕ) where
   -- a command with bit 3 on does not ask what was just passed
-  search_same : (a : Address) (m : FileMask) (j : ℕ) (p q : Bool) (g : List ℕ)
+  search_same : (a : Address) (m : Option ℕ) (j : ℕ) (p q : Bool) (g : List ℕ)
       → Step.plan_search l c (placed a m j p) st w.pack g ≡ Step.plan_search l c (placed a m j q) st w.pack g
   unfolding Drive.moved_past Step.refusal Step.refuse Step.done Step.passes_now Step.examine Step.plan_search
   search_same a m j p q g = refl
 
-  read_same : (a : Address) (m : FileMask) (j : ℕ) (p q : Bool) (k : Read) → k.just ≡ false
+  read_same : (a : Address) (m : Option ℕ) (j : ℕ) (p q : Bool) (k : Read) → k.just ≡ false
       → Step.plan_read l c (placed a m j p) st w.pack w.lent k ≡ Step.plan_read l c (placed a m j q) st w.pack w.lent k
   unfolding Drive.moved_past Drive.taken Step.refusal Step.refuse Step.plan_transfer Step.plan_record Step.plan_place Step.plan_read
   read_same a m j p q k h = rw h
 
   -- one that takes what was just passed takes the next record other than R0, where that was just passed
-  read_passed : (a : Address) (m : FileMask) (j : ℕ) (t : Track) → track_in w.pack a ≡ some t → (k : Read) → k.just ≡ true
+  read_passed : (a : Address) (m : Option ℕ) (j : ℕ) (t : Track) → track_in w.pack a ≡ Some t → (k : Read) → k.just ≡ true
       → Step.plan_read l c (placed a m (ahead t j + 1) true) st w.pack w.lent k ≡ Step.plan_read l c (placed a m j false) st w.pack w.lent k
   unfolding pick opt Drive.moved_past Drive.taken Step.refusal Step.refuse Step.plan_transfer Step.plan_record Step.plan_place Step.plan_read
   read_passed a m j t there k h = let e : ahead t j + 1 - 1 ≡ ahead t j = omega arith in rw (there, h, e)
 
-  module _ (a : Address) (m : FileMask) (j : ℕ) where
+  module _ (a : Address) (m : Option ℕ) (j : ℕ) where
     -- a unit check shows the mask alone
     reached_alike : (r s : Reached) → Alike r s → (f : Drive.Drive → Step.Plan)
-        → ((b : Address) (n : FileMask) (i : ℕ) (p q : Bool) → f (placed b n i p) ≡ f (placed b n i q))
+        → ((b : Address) (n : Option ℕ) (i : ℕ) (p q : Bool) → f (placed b n i p) ≡ f (placed b n i q))
         → Step.on_reached r (Step.refuse l c (placed a m j true) st) f ≡ Step.on_reached s (Step.refuse l c (placed a m j false) st) f
     unfolding Step.on_reached Step.refusal Step.refuse
     reached_alike (reaches d) (reaches e) (places b n i p q) f same = same b n i p q
@@ -296,7 +295,7 @@ module _ (w : Setting) (l : Location) (c : Ccw) (st : List ℕ) where
     unfolding Step.execute Step.program_check
     execute_five h = choose _ (perform_five _ (command_on c.command h)) refl
 
-    perform_five_a : (t : Track) → track_in w.pack a ≡ some t → (k : Command) → Off k
+    perform_five_a : (t : Track) → track_in w.pack a ≡ Some t → (k : Command) → Off k
         → perform w l c (placed a m (ahead t j + 1) true) st k ≡ perform w l c (placed a m j false) st k
     unfolding Step.refusal Step.refuse Step.done Step.counted Step.plan_no_operation Step.plan_seek Step.plan_sector Step.perform
     perform_five_a t there NoOperation off_no_operation = refl
@@ -310,7 +309,7 @@ module _ (w : Setting) (l : Location) (c : Ccw) (st : List ℕ) where
     perform_five_a t there SearchIdMultitrack x4 = elim x4 [ ]
     perform_five_a t there (ReadMultitrack _) x6 = elim x6 [ ]
 
-    pub execute_five_a : (t : Track) → track_in w.pack a ≡ some t → bit_on 3 c.command ≡ false → is_multitrack_data c.command ≡ false
+    pub execute_five_a : (t : Track) → track_in w.pack a ≡ Some t → bit_on 3 c.command ≡ false → is_multitrack_data c.command ≡ false
         → execute w l c (placed a m (ahead t j + 1) true) st ≡ execute w l c (placed a m j false) st
     unfolding Step.execute Step.program_check
     execute_five_a t there off n = choose _ (perform_five_a t there _ (command_off c.command off n)) refl

@@ -8,10 +8,10 @@
 --   to_count_failed       unless no record is ahead of its 92, which ends it then
 --   plan_last             the last TIC and the user's command are one step, planned as in the faultless run
 --   resumes               so the restarted run goes on with the faultless run's next step
+use Rattle.std.specs.Prelude.{Option, Some, None, Ok}
 use Prim.Native.Nat.{ℕ, zero, suc, ◌+◌, ◌-◌, ◌≤◌, ◌<◌}
 use mathlib.Core.Path.{◌≡◌, refl, ap, sym, ◌∙◌}
 use mathlib.Core.Bool.{Bool, true, false}
-use mathlib.Core.Option.{some}
 use mathlib.Core.List.{List}
 use lib.Dec.{eqb}
 use lib.ListN.{length, get_or}
@@ -29,11 +29,8 @@ use Rattle.abstract_machine.proofs.Run.{run_goes, run_ends}
 use Rattle.channel.specs.declared.Ccw.{Ccw}
 use Rattle.channel.specs.declared.Location.{Location}
 use Rattle.channel.specs.declared.Location.TheVariants.{Chain, Restart}
-use Rattle.channel.specs.declared.Fetched.TheVariants.{Got}
 use Rattle.channel.specs.Ccw.{fetch, is_tic, resolve, target}
 use Rattle.channel.proofs.Answers.{plain_ccw, tic_lands}
-use Rattle.drive.specs.declared.FileMask.{FileMask}
-use Rattle.drive.specs.declared.FileMask.TheVariants.{Unset, Set}
 use Rattle.drive.specs.Drive as Drive
 use Rattle.drive.specs.Drive.{Drive, no_record}
 use Rattle.drive.specs.Step as Step
@@ -52,7 +49,7 @@ use Rattle.restart.proofs.Join.{Counted, omitted, single, multitrack, counted, F
 -- The record at place i of the track t at a, and no other up to it, has the number r; it is not R0.
 pub record Sought (w : Setting) (a : Address) (r : ℕ) (t : Track) (i : ℕ) : Type 0 where
   pub is_on_pack : on_pack w.last a ≡ true
-  pub there : track_in w.pack a ≡ some t
+  pub there : track_in w.pack a ≡ Some t
   pub inside : i < length t.records
   pub not_zero : 0 < i
   pub own : (j : ℕ) → j < length t.records → (get_or t.records j no_record).at ≡ a
@@ -61,49 +58,49 @@ pub record Sought (w : Setting) (a : Address) (r : ℕ) (t : Track) (i : ℕ) : 
 
 -- The faultless run behind its read of that record, before the user's command x at place `to` of the chain, whose code says which read count
 -- the restart has.
-pub record Faultless (w : Setting) (a : Address) (m : FileMask) (counts : ReadCount) (i to : ℕ) (x : Ccw) (st : List ℕ) (s : State) : Type 0 where
+pub record Faultless (w : Setting) (a : Address) (m : Option ℕ) (counts : ReadCount) (i to : ℕ) (x : Ccw) (st : List ℕ) (s : State) : Type 0 where
   pub drive : s.drive ≡ placed a m (i + 1) false
   pub storage : s.storage ≡ st
-  pub comes : resolve w.lent s.last s.at ≡ Got (Chain to) x
-  pub held : fetch w.lent (Chain to) ≡ some x
+  pub comes : resolve w.lent s.last s.at ≡ Ok (Chain to, x)
+  pub held : fetch w.lent (Chain to) ≡ Some x
   pub plain : is_tic x ≡ false
   pub in_chain : to < 0x1000
   pub counted : count_for x.command ≡ counts
 
-abbrev pub controls : FileMask → ℕ
-controls Unset = 2
-controls (Set b) = 3
+abbrev pub controls : Option ℕ → ℕ
+controls None = 2
+controls (Some b) = 3
 
 abbrev pub read_counts : ReadCount → ℕ
 read_counts Omitted = 0
 read_counts Single = 1
 read_counts Multitrack = 1
 
-abbrev pub commands : FileMask → (counts : ReadCount) → (i : ℕ) → ℕ
+abbrev pub commands : Option ℕ → (counts : ReadCount) → (i : ℕ) → ℕ
 commands m counts i = controls m + (suc i + read_counts counts)
 
-pub commands_few : (m : FileMask) (counts : ReadCount) (i : ℕ) → commands m counts i ≤ 3 + (i + 1) + 1
-commands_few Unset Omitted i = omega arith
-commands_few Unset Single i = omega arith
-commands_few Unset Multitrack i = omega arith
-commands_few (Set b) Omitted i = omega arith
-commands_few (Set b) Single i = omega arith
-commands_few (Set b) Multitrack i = omega arith
+pub commands_few : (m : Option ℕ) (counts : ReadCount) (i : ℕ) → commands m counts i ≤ 3 + (i + 1) + 1
+commands_few None Omitted i = omega arith
+commands_few None Single i = omega arith
+commands_few None Multitrack i = omega arith
+commands_few (Some b) Omitted i = omega arith
+commands_few (Some b) Single i = omega arith
+commands_few (Some b) Multitrack i = omega arith
 
 -- the CCW that is fetched last before the last TIC
-abbrev pub before_last : FileMask → (counts : ReadCount) → ℕ
+abbrev pub before_last : Option ℕ → (counts : ReadCount) → ℕ
 before_last m Omitted = search_at m
 before_last m Single = count_at m
 before_last m Multitrack = count_at m
 
 -- the drive before the last TIC: behind the count area of the record at place i of the track t, or behind the one that the read count took
-pub data Before (w : Setting) (a : Address) (m : FileMask) (t : Track) (i : ℕ) : ReadCount → Drive → Type 0 where
+pub data Before (w : Setting) (a : Address) (m : Option ℕ) (t : Track) (i : ℕ) : ReadCount → Drive → Type 0 where
   searched : Before w a m t i Omitted (placed a m (i + 1) true)
   counted_on_track : Before w a m t i Single (placed a m (ahead t (i + 1) + 1) true)
   counted_on : (f : Found w.pack m 19 a (i + 1)) → Before w a m t i Multitrack (placed f.at m (ahead f.track f.place + 1) true)
 
 -- the state before the last TIC
-abbrev pub reached : FileMask → (counts : ReadCount) → Drive → List ℕ → State
+abbrev pub reached : Option ℕ → (counts : ReadCount) → Drive → List ℕ → State
 reached m counts d st = standing (Restart (before_last m counts)) (Restart (last_at m counts)) d st
 
 -- going round comes to a record where there is one besides R0
@@ -116,16 +113,16 @@ ahead_inside t j more =
 -- ---- one step
 
 module _ (fs : List Fault) (w : Setting) (last l : Location) (d : Drive) (st : List ℕ) where
-  step_got : (k : Location) (c : Ccw) (t : State) → resolve w.lent last l ≡ Got k c → carry fs st (execute w k c d st) ≡ goes t → step fs w (standing last l d st) ≡ goes t
+  step_got : (k : Location) (c : Ccw) (t : State) → resolve w.lent last l ≡ Ok (k, c) → carry fs st (execute w k c d st) ≡ goes t → step fs w (standing last l d st) ≡ goes t
   unfolding Step.step Step.plan Step.dispatch
   step_got k c t got does = rw (got, does)
 
-  step_answer : (k : Location) (c : Ccw) (t : State) → resolve w.lent last l ≡ Got k c → execute w k c d st ≡ answer (goes t) → step fs w (standing last l d st) ≡ goes t
+  step_answer : (k : Location) (c : Ccw) (t : State) → resolve w.lent last l ≡ Ok (k, c) → execute w k c d st ≡ answer (goes t) → step fs w (standing last l d st) ≡ goes t
   unfolding Step.carry
   step_answer k c t got does = step_got k c t got (ap (carry fs st) does)
 
 -- a CCW that is no TIC
-got_plain : (w : Setting) (last l : Location) (c : Ccw) → fetch w.lent l ≡ some c → is_tic c ≡ false → resolve w.lent last l ≡ Got l c
+got_plain : (w : Setting) (last l : Location) (c : Ccw) → fetch w.lent l ≡ Some c → is_tic c ≡ false → resolve w.lent last l ≡ Ok (l, c)
 got_plain w last l c f plain = sym (plain_ccw w.lent last l (sym f) plain)
 
 -- a TIC of a restart program, into that program and into the chain
@@ -140,14 +137,14 @@ target_chain k to low = rw (lt-ltb to 0x1000)
 -- ---- the program, command by command
 
 module _ (fs : List Fault) (w : Setting) (a : Address) (sector r to : ℕ) (st : List ℕ) where
-  abbrev w' : FileMask → ReadCount → Setting
+  abbrev w' : Option ℕ → ReadCount → Setting
   w' m counts = restarted w a m sector r counts to
 
-  abbrev does : FileMask → ReadCount → State → Step.Answer
+  abbrev does : Option ℕ → ReadCount → State → Step.Answer
   does m counts = step fs (w' m counts)
 
-  step_seek : (m : FileMask) (counts : ReadCount) → on_pack w.last a ≡ true
-      → does m counts (start (Restart 0) st) ≡ goes (standing (Restart 0) (Restart 8) (placed a Unset 0 false) st)
+  step_seek : (m : Option ℕ) (counts : ReadCount) → on_pack w.last a ≡ true
+      → does m counts (start (Restart 0) st) ≡ goes (standing (Restart 0) (Restart 8) (placed a None 0 false) st)
   unfolding start Drive.initial is_tic
   step_seek m counts is_on_pack =
       step_answer fs (w' m counts) (Restart 0) (Restart 0) Drive.initial st (Restart 0) Commands.seek_ccw _
@@ -155,14 +152,14 @@ module _ (fs : List Fault) (w : Setting) (a : Address) (sector r to : ℕ) (st :
       (Commands.execute_seek w a sector r to m counts 0 st Drive.initial refl is_on_pack)
 
   step_mask : (b : ℕ) (counts : ReadCount) → settable b ≡ true
-      → does (Set b) counts (standing (Restart 0) (Restart 8) (placed a Unset 0 false) st) ≡ goes (standing (Restart 8) (Restart 16) (placed a (Set b) 0 false) st)
+      → does (Some b) counts (standing (Restart 0) (Restart 8) (placed a None 0 false) st) ≡ goes (standing (Restart 8) (Restart 16) (placed a (Some b) 0 false) st)
   unfolding is_tic
   step_mask b counts may =
-      step_answer fs (w' (Set b) counts) (Restart 0) (Restart 8) (placed a Unset 0 false) st (Restart 8) Commands.mask_ccw _
-      (got_plain (w' (Set b) counts) (Restart 0) (Restart 8) _ (Commands.fetch_mask w a sector r to b counts) refl)
-      (Commands.execute_mask w a sector r to (Set b) counts 8 st (placed a Unset 0 false) b refl refl may)
+      step_answer fs (w' (Some b) counts) (Restart 0) (Restart 8) (placed a None 0 false) st (Restart 8) Commands.mask_ccw _
+      (got_plain (w' (Some b) counts) (Restart 0) (Restart 8) _ (Commands.fetch_mask w a sector r to b counts) refl)
+      (Commands.execute_mask w a sector r to (Some b) counts 8 st (placed a None 0 false) b refl refl may)
 
-  step_sector : (m : FileMask) (counts : ReadCount) (last : Location) → sector < 128
+  step_sector : (m : Option ℕ) (counts : ReadCount) (last : Location) → sector < 128
       → does m counts (standing last (Restart (sector_at m)) (placed a m 0 false) st) ≡ goes (standing (Restart (sector_at m)) (Restart (search_at m)) (placed a m 0 false) st)
   unfolding is_tic
   step_sector m counts last low =
@@ -170,31 +167,31 @@ module _ (fs : List Fault) (w : Setting) (a : Address) (sector r to : ℕ) (st :
       (got_plain (w' m counts) last (Restart (sector_at m)) _ (Commands.fetches w a sector r to m counts).sector refl)
       (Commands.execute_sector w a sector r to m counts (sector_at m) st (placed a m 0 false) low)
 
-  pub to_search : (m : FileMask) (counts : ReadCount) → ((b : ℕ) → m ≡ Set b → settable b ≡ true) → on_pack w.last a ≡ true → sector < 128 → (n : ℕ)
+  pub to_search : (m : Option ℕ) (counts : ReadCount) → ((b : ℕ) → m ≡ Some b → settable b ≡ true) → on_pack w.last a ≡ true → sector < 128 → (n : ℕ)
       → run (does m counts) limit_of (controls m + n) (start (Restart 0) st) ≡ run (does m counts) limit_of n (standing (Restart (sector_at m)) (Restart (search_at m)) (placed a m 0 false) st)
-  to_search Unset counts may is_on_pack low n =
-      let F : State → Step.Answer = does Unset counts in
+  to_search None counts may is_on_pack low n =
+      let F : State → Step.Answer = does None counts in
       rw (suc-add 1 n, suc-add 0 n, zero-add n)
-      (run_goes F limit_of (suc n) _ _ (step_seek Unset counts is_on_pack)
-      ∙ run_goes F limit_of n _ _ (step_sector Unset counts (Restart 0) low))
-  to_search (Set b) counts may is_on_pack low n =
-      let F : State → Step.Answer = does (Set b) counts in
+      (run_goes F limit_of (suc n) _ _ (step_seek None counts is_on_pack)
+      ∙ run_goes F limit_of n _ _ (step_sector None counts (Restart 0) low))
+  to_search (Some b) counts may is_on_pack low n =
+      let F : State → Step.Answer = does (Some b) counts in
       rw (suc-add 2 n, suc-add 1 n, suc-add 0 n, zero-add n)
-      (run_goes F limit_of (suc (suc n)) _ _ (step_seek (Set b) counts is_on_pack)
+      (run_goes F limit_of (suc (suc n)) _ _ (step_seek (Some b) counts is_on_pack)
       ∙ run_goes F limit_of (suc n) _ _ (step_mask b counts (may b refl))
-      ∙ run_goes F limit_of n _ _ (step_sector (Set b) counts (Restart 8) low))
+      ∙ run_goes F limit_of n _ _ (step_sector (Some b) counts (Restart 8) low))
 
   -- ---- the searches
 
-  got_again : (m : FileMask) (counts : ReadCount) (last : Location) → resolve (w' m counts).lent last (Restart (search_at m + 8)) ≡ Got (Restart (search_at m)) search_ccw
+  got_again : (m : Option ℕ) (counts : ReadCount) (last : Location) → resolve (w' m counts).lent last (Restart (search_at m + 8)) ≡ Ok (Restart (search_at m), search_ccw)
   unfolding is_tic
   got_again m counts last =
       let holds = Commands.fetches w a sector r to m counts in
       sym (tic_lands (w' m counts).lent last (Restart (search_at m + 8)) (sym holds.again) refl (sym (target_restart (search_at m + 8) (search_at m))) (sym holds.search) refl)
 
-  module _ (m : FileMask) (counts : ReadCount) (t : Track) (i : ℕ) (sought : Sought w a r t i) where
+  module _ (m : Option ℕ) (counts : ReadCount) (t : Track) (i : ℕ) (sought : Sought w a r t i) where
     -- a search at place j, up to the record's, equal or not
-    step_search : (equal : Bool) (j : ℕ) (passed : Bool) (last l : Location) → resolve (w' m counts).lent last l ≡ Got (Restart (search_at m)) search_ccw
+    step_search : (equal : Bool) (j : ℕ) (passed : Bool) (last l : Location) → resolve (w' m counts).lent last l ≡ Ok (Restart (search_at m), search_ccw)
         → j ≤ i → eqb r (get_or t.records j no_record).r ≡ equal
         → does m counts (standing last l (placed a m j passed) st)
         ≡ goes (standing (Restart (search_at m)) (Restart (pick equal (count_at m) (search_at m + 8))) (placed a m (j + 1) true) st)
@@ -204,7 +201,7 @@ module _ (fs : List Fault) (w : Setting) (a : Address) (sector r to : ℕ) (st :
         (Commands.execute_search w a sector r to m counts (search_at m) st m t j passed sought.there (omega (arith, sought.inside)) (sought.own j (omega (arith, sought.inside)))))
 
     -- g places are before the record's
-    search_loop : (g j : ℕ) → j + g ≡ i → (passed : Bool) (last l : Location) → resolve (w' m counts).lent last l ≡ Got (Restart (search_at m)) search_ccw → (n : ℕ)
+    search_loop : (g j : ℕ) → j + g ≡ i → (passed : Bool) (last l : Location) → resolve (w' m counts).lent last l ≡ Ok (Restart (search_at m), search_ccw) → (n : ℕ)
         → run (does m counts) limit_of (suc g + n) (standing last l (placed a m j passed) st)
         ≡ run (does m counts) limit_of n (standing (Restart (search_at m)) (Restart (count_at m)) (placed a m (i + 1) true) st)
     unfolding pick
@@ -219,7 +216,7 @@ module _ (fs : List Fault) (w : Setting) (a : Address) (sector r to : ℕ) (st :
 
     -- ---- up to the last TIC
 
-    to_count : ((b : ℕ) → m ≡ Set b → settable b ≡ true) → sector < 128 → (n : ℕ)
+    to_count : ((b : ℕ) → m ≡ Some b → settable b ≡ true) → sector < 128 → (n : ℕ)
         → run (does m counts) limit_of (controls m + (suc i + n)) (start (Restart 0) st)
         ≡ run (does m counts) limit_of n (standing (Restart (search_at m)) (Restart (count_at m)) (placed a m (i + 1) true) st)
     unfolding is_tic
@@ -229,17 +226,17 @@ module _ (fs : List Fault) (w : Setting) (a : Address) (sector r to : ℕ) (st :
         (got_plain (w' m counts) (Restart (sector_at m)) (Restart (search_at m)) search_ccw (Commands.fetches w a sector r to m counts).search refl) n
 
   -- the CCW of the read count
-  got_count : (m : FileMask) (counts : ReadCount) (command : ℕ) → fetch (w' m counts).lent (Restart (count_at m)) ≡ some (Commands.count_ccw command)
+  got_count : (m : Option ℕ) (counts : ReadCount) (command : ℕ) → fetch (w' m counts).lent (Restart (count_at m)) ≡ Some (Commands.count_ccw command)
       → is_tic (Commands.count_ccw command) ≡ false
-      → resolve (w' m counts).lent (Restart (search_at m)) (Restart (count_at m)) ≡ Got (Restart (count_at m)) (Commands.count_ccw command)
+      → resolve (w' m counts).lent (Restart (search_at m)) (Restart (count_at m)) ≡ Ok (Restart (count_at m), Commands.count_ccw command)
   got_count m counts command held plain = got_plain (w' m counts) (Restart (search_at m)) (Restart (count_at m)) (Commands.count_ccw command) held plain
 
-  got_multitrack : (m : FileMask)
-      → resolve (w' m Multitrack).lent (Restart (search_at m)) (Restart (count_at m)) ≡ Got (Restart (count_at m)) (Commands.count_ccw 0x92)
+  got_multitrack : (m : Option ℕ)
+      → resolve (w' m Multitrack).lent (Restart (search_at m)) (Restart (count_at m)) ≡ Ok (Restart (count_at m), Commands.count_ccw 0x92)
   unfolding is_tic
   got_multitrack m = got_count m Multitrack 0x92 (Commands.fetch_count_multitrack w a sector r to m) refl
 
-  step_count : (m : FileMask) (t : Track) (i : ℕ) → Sought w a r t i
+  step_count : (m : Option ℕ) (t : Track) (i : ℕ) → Sought w a r t i
       → does m Single (standing (Restart (search_at m)) (Restart (count_at m)) (placed a m (i + 1) true) st)
       ≡ goes (reached m Single (placed a m (ahead t (i + 1) + 1) true) st)
   unfolding is_tic
@@ -250,7 +247,7 @@ module _ (fs : List Fault) (w : Setting) (a : Address) (sector r to : ℕ) (st :
       ∙ Commands.carry_count w a sector r to m Single (count_at m) st 0x12 a m t (i + 1) true fs sought.there
       (ahead_inside t (i + 1) (omega (arith, sought.inside, sought.not_zero))))
 
-  step_count_multitrack : (m : FileMask) (i : ℕ) (f : Found w.pack m 19 a (i + 1))
+  step_count_multitrack : (m : Option ℕ) (i : ℕ) (f : Found w.pack m 19 a (i + 1))
       → does m Multitrack (standing (Restart (search_at m)) (Restart (count_at m)) (placed a m (i + 1) true) st)
       ≡ goes (reached m Multitrack (placed f.at m (ahead f.track f.place + 1) true) st)
   unfolding Step.on_reached
@@ -260,8 +257,8 @@ module _ (fs : List Fault) (w : Setting) (a : Address) (sector r to : ℕ) (st :
       (ap (carry fs st) (Commands.execute_count_multitrack w a sector r to m Multitrack (count_at m) st (placed a m (i + 1) true))
       ∙ rw f.behind_area (Commands.carry_count w a sector r to m Multitrack (count_at m) st 0x92 f.at m f.track f.place f.passed fs f.there f.inside))
 
-  pub to_last : (m : FileMask) (counts : ReadCount) (t : Track) (i : ℕ) (d : Drive) → Before w a m t i counts d → Sought w a r t i
-      → ((b : ℕ) → m ≡ Set b → settable b ≡ true) → sector < 128 → (n : ℕ)
+  pub to_last : (m : Option ℕ) (counts : ReadCount) (t : Track) (i : ℕ) (d : Drive) → Before w a m t i counts d → Sought w a r t i
+      → ((b : ℕ) → m ≡ Some b → settable b ≡ true) → sector < 128 → (n : ℕ)
       → run (does m counts) limit_of (commands m counts i + n) (start (Restart 0) st) ≡ run (does m counts) limit_of n (reached m counts d st)
   to_last m counts t i d before sought may low n =
       let e : controls m + (suc i + read_counts counts) + n ≡ controls m + (suc i + (read_counts counts + n)) = omega arith in
@@ -275,8 +272,8 @@ module _ (fs : List Fault) (w : Setting) (a : Address) (sector r to : ℕ) (st :
       by Multitrack d (counted_on f) = rw (suc-add 0 n, zero-add n) (run_goes (does m Multitrack) limit_of n _ _ (step_count_multitrack m i f))
 
   -- the restart ends at its 92, where no record is ahead
-  pub to_count_failed : (m : FileMask) (t : Track) (i : ℕ) (x : Step.Check) → Step.read_from w.pack 19 (placed a m (i + 1) true) ≡ fails x
-      → Sought w a r t i → ((b : ℕ) → m ≡ Set b → settable b ≡ true) → sector < 128 → (n : ℕ)
+  pub to_count_failed : (m : Option ℕ) (t : Track) (i : ℕ) (x : Step.Check) → Step.read_from w.pack 19 (placed a m (i + 1) true) ≡ fails x
+      → Sought w a r t i → ((b : ℕ) → m ≡ Some b → settable b ≡ true) → sector < 128 → (n : ℕ)
       → run (does m Multitrack) limit_of (commands m Multitrack i + n) (start (Restart 0) st)
       ≡ ended (refused_at x (Restart (count_at m)) (Commands.count_ccw 0x92) (placed a m (i + 1) true) st)
   unfolding Step.step Step.plan Step.dispatch Step.carry Step.on_reached Step.refuse Step.refusal
@@ -288,22 +285,22 @@ module _ (fs : List Fault) (w : Setting) (a : Address) (sector r to : ℕ) (st :
 
 -- ---- the last TIC, and the user's command behind it
 
-module _ (w : Setting) (a : Address) (sector r to : ℕ) (st : List ℕ) (m : FileMask) (counts : ReadCount) (t : Track) (i : ℕ) (x : Ccw) (s : State) where
+module _ (w : Setting) (a : Address) (sector r to : ℕ) (st : List ℕ) (m : Option ℕ) (counts : ReadCount) (t : Track) (i : ℕ) (x : Ccw) (s : State) where
   got_last : Faultless w a m counts i to x st s
-      → resolve (restarted w a m sector r counts to).lent (Restart (before_last m counts)) (Restart (last_at m counts)) ≡ Got (Chain to) x
+      → resolve (restarted w a m sector r counts to).lent (Restart (before_last m counts)) (Restart (last_at m counts)) ≡ Ok (Chain to, x)
   unfolding is_tic fetch
   got_last faultless =
       sym (tic_lands _ (Restart (before_last m counts)) (Restart (last_at m counts)) (sym (Commands.fetches w a sector r to m counts).last) refl
       (sym (target_chain (last_at m counts) to faultless.in_chain)) (sym faultless.held) faultless.plain)
 
-  joins : (counts : ReadCount) (d : Drive) → Before w a m t i counts d → Counted x.command counts → track_in w.pack a ≡ some t
+  joins : (counts : ReadCount) (d : Drive) → Before w a m t i counts d → Counted x.command counts → track_in w.pack a ≡ Some t
       → execute w (Chain to) x d st ≡ execute w (Chain to) x (placed a m (i + 1) false) st
   joins Omitted d searched (omitted on n) there = execute_five w (Chain to) x st a m (i + 1) on
   joins Single d counted_on_track (single off n) there = execute_five_a w (Chain to) x st a m (i + 1) t there off n
   joins Multitrack d (counted_on f) (multitrack h) there = execute_five_a_multitrack w (Chain to) x st a m (i + 1) f h
 
   -- `local`: the user's command does not see the restart program
-  pub plan_last : (d : Drive) → Before w a m t i counts d → track_in w.pack a ≡ some t → Faultless w a m counts i to x st s
+  pub plan_last : (d : Drive) → Before w a m t i counts d → track_in w.pack a ≡ Some t → Faultless w a m counts i to x st s
       → (local : (d : Drive) → execute (restarted w a m sector r counts to) (Chain to) x d st ≡ execute w (Chain to) x d st)
       → plan (restarted w a m sector r counts to) (reached m counts d st) ≡ plan w s
   unfolding Step.plan Step.dispatch
@@ -313,7 +310,7 @@ module _ (w : Setting) (a : Address) (sector r to : ℕ) (st : List ℕ) (m : Fi
 
   pub resumes : (fs : List Fault) (d : Drive) → Before w a m t i counts d → Sought w a r t i → Faultless w a m counts i to x st s
       → (local : (d : Drive) → execute (restarted w a m sector r counts to) (Chain to) x d st ≡ execute w (Chain to) x d st)
-      → ((b : ℕ) → m ≡ Set b → settable b ≡ true) → sector < 128 → (n : ℕ)
+      → ((b : ℕ) → m ≡ Some b → settable b ≡ true) → sector < 128 → (n : ℕ)
       → (run (step fs (restarted w a m sector r counts to)) limit_of (commands m counts i + suc n) (start (Restart 0) st)
       ≡ run (step fs (restarted w a m sector r counts to)) limit_of (suc n) (reached m counts d st))
       × (step fs (restarted w a m sector r counts to) (reached m counts d st) ≡ step fs w s)

@@ -8,10 +8,3 @@ pub enum ReadCount {
     Single,
     Multitrack,
 }
-
-// The last TIC, to this address of the chain; in 9 and 11 there is none where the interrupted CCW does not chain.
-#[derive(Clone, Copy)]
-pub enum LastTic {
-    To(usize),
-    Absent,
-}

@@ -1,7 +1,7 @@
 // The restart areas, byte by byte: a restart program of 64 bytes, and its arguments, 16 bytes. Unused bytes are 0.
 #![tactic(auto)]
 
-ghost use Rattle.std.specs.Prelude.{[], ◌≡◌, ◌+◌, ◌<◌, ◌≤◌, length, replicate};
+ghost use Rattle.std.specs.Prelude.{[], ◌≡◌, ◌+◌, ◌<◌, ◌≤◌, length};
 ghost use Rattle.channel.specs.Fetch.{InBytes};
 ghost use Rattle.drive.specs.Drive.{address_bytes};
 ghost use Rattle.restart.specs.Restart.{ccw_bytes, program_of, search_program, overflow_program, mask_byte, restart_arguments_of, search_arguments};
@@ -9,28 +9,15 @@ ghost use Rattle.restart_areas.specs.Placed.{placed, begun, begun_to, TicLow};
 
 use address::Address;
 use channel::Ccw;
-use drive::FileMask;
-use restart::{LastTic, ReadCount};
-
-fn clear(area: &mut [u8])
-    ensures { area.new ≡ replicate (length area.old) 0 }
-{
-    let mut i = 0;
-    while i < area.len() {
-        area[i] = 0;
-        i += 1;
-    }
-}
+use restart::ReadCount;
 
 // Bytes one behind the other, from a place on.
 fn place(area: &mut [u8], at: usize, bytes: &[u8])
     requires { at + length bytes.now ≤ length area.old }
     ensures { area.new ≡ placed area.old at bytes.now }
 {
-    let mut i = 0;
-    while i < bytes.len() {
+    for i in 0..bytes.len() {
         area[at + i] = bytes[i];
-        i += 1;
     }
 }
 
@@ -40,43 +27,36 @@ fn put_ccw(program: &mut [u8], at: usize, command: u8, address: usize, flags: u8
     requires count_bound { count < 65536 }
     ensures { program.new ≡ placed program.old at (ccw_bytes command address flags count) }
 {
-    let bytes = [
-        command,
-        (address / 65536) as u8,
-        (address / 256 % 256) as u8,
-        (address % 256) as u8,
-        flags,
-        0,
-        (count / 256) as u8,
-        (count % 256) as u8,
-    ];
+    let [_, high, middle, low] = (address as u32).to_be_bytes();
+    let [count_high, count_low] = (count as u16).to_be_bytes();
+    let bytes = [command, high, middle, low, flags, 0, count_high, count_low];
     place(program, at, &bytes);
 }
 
 // Seek, mask if one was set, and sector, at the front of the program; the place behind them.
-fn begin(program: &mut [u8], mask: FileMask) -> usize
+fn begin(program: &mut [u8], mask: Option<u8>) -> usize
     requires { length program.old ≡ 64 }
     ensures program_after { program.new ≡ begun mask }
     ensures value { result ≡ begun_to mask }
     ensures upper_bound { result ≤ 24 }
 {
-    clear(program);
+    program.fill(0);
     put_ccw(program, 0, 0x07, 0x2000, 0x40, 6);
     match mask {
-        FileMask::Unset => {
+        None => {
             put_ccw(program, 8, 0x23, 0x2007, 0x40, 1);
-            return 16;
+            16
         }
-        FileMask::Set(_) => {
+        Some(_) => {
             put_ccw(program, 8, 0x1f, 0x2006, 0x40, 1);
             put_ccw(program, 16, 0x23, 0x2007, 0x40, 1);
-            return 24;
+            24
         }
     }
 }
 
 // The restart program of action 5, and with a read count of 5A: the search for an ID, and a TIC to the chain's CCW at `to`.
-pub fn search_program(program: &mut [u8], mask: FileMask, counts: ReadCount, to: usize)
+pub fn search_program(program: &mut [u8], mask: Option<u8>, counts: ReadCount, to: usize)
     requires program_len { length program.old ≡ 64 }
     requires to_bound { to < 65536 }
     ensures { program.new ≡ search_program mask counts to }
@@ -100,7 +80,7 @@ pub fn search_program(program: &mut [u8], mask: FileMask, counts: ReadCount, to:
 }
 
 // The restart program of actions 8, 10 and 10A: the home address, and a TIC to the chain's CCW at `to`.
-pub fn home_program(program: &mut [u8], mask: FileMask, to: usize)
+pub fn home_program(program: &mut [u8], mask: Option<u8>, to: usize)
     requires program_len { length program.old ≡ 64 }
     requires to_bound { to < 65536 }
     ensures { program.new ≡ program_of mask (ccw_bytes 0x1a 0 0x50 5) to }
@@ -111,7 +91,7 @@ pub fn home_program(program: &mut [u8], mask: FileMask, to: usize)
 }
 
 // The restart program of actions 9 and 11: the home address, restart CCW 1, and the last TIC if there is one.
-pub fn overflow_program(program: &mut [u8], mask: FileMask, first: Ccw, tic: LastTic)
+pub fn overflow_program(program: &mut [u8], mask: Option<u8>, first: Ccw, tic: Option<usize>)
     requires program_len { length program.old ≡ 64 }
     requires in_bytes { InBytes first }
     requires tic_low { TicLow tic }
@@ -128,8 +108,8 @@ pub fn overflow_program(program: &mut [u8], mask: FileMask, first: Ccw, tic: Las
         first.count,
     );
     match tic {
-        LastTic::Absent => {}
-        LastTic::To(to) => {
+        None => {}
+        Some(to) => {
             put_ccw(program, at + 16, 0x08, to, 0, 0);
         }
     }
@@ -142,39 +122,39 @@ fn put_address(restart_arguments: &mut [u8], at: usize, a: Address)
     requires head_bound { a.head < 65536 }
     ensures { restart_arguments.new ≡ placed restart_arguments.old at (address_bytes a) }
 {
-    let bytes = [
-        (a.cylinder / 256) as u8,
-        (a.cylinder % 256) as u8,
-        (a.head / 256) as u8,
-        (a.head % 256) as u8,
-    ];
-    place(restart_arguments, at, &bytes);
+    place(restart_arguments, at, &(a.cylinder as u16).to_be_bytes());
+    place(restart_arguments, at + 2, &(a.head as u16).to_be_bytes());
 }
 
-fn mask_byte(mask: FileMask) -> u8
+fn mask_byte(mask: Option<u8>) -> u8
     ensures { result ≡ mask_byte mask }
 {
     match mask {
-        FileMask::Unset => 0,
-        FileMask::Set(m) => m,
+        None => 0,
+        Some(m) => m,
     }
 }
 
 // The arguments of seek, mask and sector: with sector 0, the restart arguments of actions 8 to 11.
-pub fn begin_arguments(restart_arguments: &mut [u8], a: Address, mask: FileMask, sector: u8)
+pub fn begin_arguments(restart_arguments: &mut [u8], a: Address, mask: Option<u8>, sector: u8)
     requires restart_arguments_len { length restart_arguments.old ≡ 16 }
     requires cylinder_bound { a.cylinder < 65536 }
     requires head_bound { a.head < 65536 }
     ensures { restart_arguments.new ≡ restart_arguments_of a mask sector [] }
 {
-    clear(restart_arguments);
+    restart_arguments.fill(0);
     put_address(restart_arguments, 2, a);
-    let bytes = [mask_byte(mask), sector];
-    place(restart_arguments, 6, &bytes);
+    place(restart_arguments, 6, &[mask_byte(mask), sector]);
 }
 
 // The restart arguments of actions 5 and 5A, with the ID of record r.
-pub fn search_arguments(restart_arguments: &mut [u8], a: Address, mask: FileMask, sector: u8, r: u8)
+pub fn search_arguments(
+    restart_arguments: &mut [u8],
+    a: Address,
+    mask: Option<u8>,
+    sector: u8,
+    r: u8,
+)
     requires restart_arguments_len { length restart_arguments.old ≡ 16 }
     requires cylinder_bound { a.cylinder < 65536 }
     requires head_bound { a.head < 65536 }
@@ -182,6 +162,5 @@ pub fn search_arguments(restart_arguments: &mut [u8], a: Address, mask: FileMask
 {
     begin_arguments(restart_arguments, a, mask, sector);
     put_address(restart_arguments, 8, a);
-    let bytes = [r];
-    place(restart_arguments, 12, &bytes);
+    place(restart_arguments, 12, &[r]);
 }

@@ -2,6 +2,7 @@
 --   status_length, cut_length, last_length   how long the parts are
 --   whole                                    36 bytes, after the three parts were written to a lent area
 --   ended_so, cut_so, limit_so               the bytes are those of what the run shows
+use Rattle.std.specs.Prelude.{Option, Some, None}
 use Prim.Native.Nat.{ℕ, ◌+◌, ◌-◌}
 use native.Mathlib.Omega.{arith}
 use mathlib.Core.Path.{◌≡◌, refl, ap, sym, ◌∙◌}
@@ -13,8 +14,6 @@ use Rattle.base.specs.Choice.{opt}
 use Rattle.base.specs.Bytes.{two, three}
 use Rattle.copy.proofs.Lists.{put_home}
 use Rattle.channel.specs.Ccw.{address_of}
-use Rattle.drive.specs.declared.FileMask.{FileMask}
-use Rattle.drive.specs.declared.FileMask.TheVariants.{Unset, Set}
 use Rattle.drive.specs.Drive.{address_bytes}
 use Rattle.drive.specs.Step as Step
 use Rattle.command.specs.declared.Check.TheVariants.{Rejected, NotFound, Protected, EndOfCylinder}
@@ -44,10 +43,10 @@ pub cut_length : (k : Cut) → length (Step.cut_sense (cut_of k [])) ≡ 24
 unfolding Step.cut_sense address_bytes three two
 cut_length k = refl
 
-pub last_length : (m : FileMask) (n : ℕ) → length (mask_bytes m ++ two n) ≡ 4
+pub last_length : (m : Option ℕ) (n : ℕ) → length (mask_bytes m ++ two n) ≡ 4
 unfolding mask_bytes two
-last_length Unset n = refl
-last_length (Set m) n = refl
+last_length None n = refl
+last_length (Some m) n = refl
 
 -- ---- three parts of a lent area
 

@@ -1,19 +1,17 @@
 -- A run's answer as 36 bytes: CSW 8, sense 24, whether a file mask was set 1, the mask 1, address of a cut read's first CCW 2.
-use Rattle.std.specs.Prelude.{ℕ, ◌≡◌, List, [], ◌∷◌, ◌++◌}
+use Rattle.std.specs.Prelude.{ℕ, ◌≡◌, List, [], ◌∷◌, ◌++◌, Option, Some, None}
 use Rattle.base.specs.Choice.{pick, opt}
 use Rattle.base.specs.Bytes.{two}
 use Rattle.questions.specs.Number.{limit_return}
 use Rattle.channel.specs.Csw.{csw_bytes}
-use Rattle.drive.specs.declared.FileMask.{FileMask}
-use Rattle.drive.specs.declared.FileMask.TheVariants.{Unset, Set}
 use Rattle.trial.specs.declared.Ran.{Ran}
 use Rattle.trial.specs.Run.{ran_of}
 use Rattle.trial.specs.Trial.{Shown, shown_of}
 
 -- whether a mask was set, and which; 0 where none was
-unfoldable pub mask_bytes : FileMask → List ℕ
-mask_bytes Unset = 0 ∷ 0 ∷ []
-mask_bytes (Set m) = 1 ∷ m ∷ []
+unfoldable pub mask_bytes : Option ℕ → List ℕ
+mask_bytes None = 0 ∷ 0 ∷ []
+mask_bytes (Some m) = 1 ∷ m ∷ []
 
 -- what a run shows, in that order; the address is 0 where there is no cut
 unfoldable pub answer_bytes : Shown → List ℕ

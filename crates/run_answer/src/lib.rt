@@ -13,23 +13,22 @@ ghost use Rattle.run_answer.specs.RunAnswer.{mask_bytes, Writes, Numbers};
 
 use channel::Csw;
 use command::{Cut, Status};
-use drive::FileMask;
 use trial::Ran;
 
 // The file mask, and the address of a cut read's first CCW, at the front of what is lent.
-fn put_last(to: &mut [u8], mask: FileMask, first: usize)
+fn put_last(to: &mut [u8], mask: Option<u8>, first: usize)
     requires in_bounds { 4 ≤ length to.old }
     requires first_bound { first < 0x10000 }
     ensures { to.new ≡ mask_bytes mask ++ two first ++ drop 4 to.old }
 {
     match mask {
-        FileMask::Unset => copy::put(to, &[0, 0, (first / 256) as u8, (first % 256) as u8]),
-        FileMask::Set(m) => copy::put(to, &[1, m, (first / 256) as u8, (first % 256) as u8]),
+        None => copy::put(to, &[0, 0, (first / 256) as u8, (first % 256) as u8]),
+        Some(m) => copy::put(to, &[1, m, (first / 256) as u8, (first % 256) as u8]),
     }
 }
 
 // An end, or "limit".
-fn put_end(answer: &mut [u8], w: Csw, s: Status, mask: FileMask)
+fn put_end(answer: &mut [u8], w: Csw, s: Status, mask: Option<u8>)
     requires answer_len { length answer.old ≡ 36 }
     requires csw_low { CswLow w }
     ensures { answer.new ≡ csw_bytes w ++ sense_of s ++ (mask_bytes mask ++ two 0) }

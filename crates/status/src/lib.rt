@@ -28,5 +28,5 @@ pub fn put_refused(out: &mut [u8], at: usize, q: Question) -> usize
     ensures value { result ≡ at + 9 }
 {
     let number = text::put(out, at, b"refused");
-    text::put_number(out, number, 10, 1, base::wide(questions::number(q)))
+    text::put_number(out, number, 10, 1, base::wide(u8::from(q)))
 }

@@ -6,19 +6,15 @@ ghost use Rattle.channel.specs.Walk.{readable};
 ghost use Rattle.channel.specs.Fetch.{InBytes, Inside};
 ghost use Rattle.transfer.specs.Transfer.{left, Transfers, CountLow, stretched};
 
-use channel::{Ccw, Fetched, Location};
+use channel::{Ccw, Location};
 
-// How a read's data chain ended: at a CCW with its count left, and whether bytes were left over; or by a program check,
-// with the CCW that was fetched last.
+// How a read's data chain ended: at a CCW with its count left, and whether bytes were left over.
 #[derive(Clone, Copy)]
-pub enum Moved {
-    Ended {
-        at: Location,
-        ccw: Ccw,
-        left: usize,
-        over: bool,
-    },
-    Checked(Location),
+pub struct Moved {
+    pub at: Location,
+    pub ccw: Ccw,
+    pub left: usize,
+    pub over: bool,
 }
 
 // The next n bytes of a read under one CCW. Its stretch of storage is lent on from its address.
@@ -36,7 +32,7 @@ fn stretch(storage: &mut [u8], c: Ccw, bytes: &[u8], from: usize, n: usize)
     copy::put(&mut storage[a..], &bytes[from..from + n]);
 }
 
-// The bytes of a read whose first CCW, which a read may use, is c at l.
+// The bytes of a read whose first CCW, which a read may use, is c at l. A program check shows the CCW that was fetched last.
 pub fn transfer(
     chain: &[u8],
     program: &[u8],
@@ -44,7 +40,7 @@ pub fn transfer(
     c: Ccw,
     bytes: &[u8],
     storage: &mut [u8],
-) -> Moved
+) -> Result<Moved, Location>
     requires inside { Inside chain.now program.now l }
     requires in_bytes { InBytes c }
     requires c_value { readable (length storage.old) c ≡ true }
@@ -60,34 +56,28 @@ pub fn transfer(
         let k = word.count;
         if n < k {
             stretch(storage, word, bytes, from, n);
-            return Moved::Ended {
+            return Ok(Moved {
                 at: here,
                 ccw: word,
                 left: k - n,
                 over: false,
-            };
+            });
         }
         stretch(storage, word, bytes, from, k);
         from += k;
         if !word.chains_data() {
-            return Moved::Ended {
+            return Ok(Moved {
                 at: here,
                 ccw: word,
                 left: 0,
                 over: from < bytes.len(),
-            };
+            });
         }
-        match channel::resolve(chain, program, here, location::next(here)) {
-            Fetched::Broken(x) => {
-                return Moved::Checked(x);
-            }
-            Fetched::Got(x, e) => {
-                if !e.readable(storage.len()) {
-                    return Moved::Checked(x);
-                }
-                here = x;
-                word = e;
-            }
+        let (x, e) = channel::resolve(chain, program, here, location::next(here))?;
+        if !e.readable(storage.len()) {
+            return Err(x);
         }
+        here = x;
+        word = e;
     }
 }

@@ -5,11 +5,11 @@
 --   image_refused, faults_refused, ran_so      questions 2 and 3, and the run behind them
 --   run_refused, run_fits         question 1 of a run
 --   restart_refused, program_refused, restart_fits      question 1 of a restarted run
+use Rattle.std.specs.Prelude.{Option, Some, None, Ok, Err}
 use Prim.Native.Nat.{ℕ, ◌≤◌}
 use native.Mathlib.Omega.{arith}
 use mathlib.Core.Path.{◌≡◌, refl, sym, ◌∙◌}
 use mathlib.Core.Bool.{Bool, true, false, ◌&&◌}
-use mathlib.Core.Option.{Option, none, some}
 use mathlib.Core.List.{List, []}
 use lib.Dec.{eqb, leb}
 use lib.ListN.{length}
@@ -30,7 +30,6 @@ use Rattle.drive.specs.Run.{run_from}
 use Rattle.location.specs.Low.{Low}
 use Rattle.command.specs.Answer.{setting_with, lent_of}
 use Rattle.trial.specs.declared.Ran.{Ran}
-use Rattle.trial.specs.declared.Trial.TheVariants as Trial
 use Rattle.trial.specs.Run.{ran_of}
 use Rattle.trial.specs.Trial.{storage_of, Conclusion, refusal, concluded, begin, run_call, restarted_areas, restart_call, conclusion_of}
 
@@ -63,40 +62,40 @@ low_restart = omega arith
 
 -- ---- questions 2 and 3
 
-pub listed : (ts : List Track) (s : List ℕ) → sound_from ts s 0 ≡ true → (fs : List Fault) × (faults_at s 0 ≡ some fs) × (sound_faults ts fs ≡ true)
+pub listed : (ts : List Track) (s : List ℕ) → sound_from ts s 0 ≡ true → (fs : List Fault) × (faults_at s 0 ≡ Some fs) × (sound_faults ts fs ≡ true)
 unfolding sound_from opt
 listed ts s h = by (faults_at s 0) h
   where
-    by : (o : Option (List Fault)) → opt o false (sound_faults ts) ≡ true → (fs : List Fault) × (o ≡ some fs) × (sound_faults ts fs ≡ true)
-    by none q = let z : ◌≡◌ {A = ℕ} 0 1 = cc in absurd (omega arith)
-    by (some fs) q = (fs, refl, q)
+    by : (o : Option (List Fault)) → opt o false (sound_faults ts) ≡ true → (fs : List Fault) × (o ≡ Some fs) × (sound_faults ts fs ≡ true)
+    by None q = let z : ◌≡◌ {A = ℕ} 0 1 = cc in absurd (omega arith)
+    by (Some fs) q = (fs, refl, q)
 
 -- a choice that no test of it lets through
 pub kept_out : {A B : Type 0} (o : Option A) (f : A → Bool) (y : B) (g : A → B) → opt o false f ≡ false → y ≡ opt o y (λ a. pick (f a) (g a) y)
 unfolding opt
-kept_out none f y g h = refl
-kept_out (some a) f y g h = sym (pick_false (g a) y h)
+kept_out None f y g h = refl
+kept_out (Some a) f y g h = sym (pick_false (g a) y h)
 
-concluded_so : (r : Ran) (after : List ℕ) → conclusion_of (Trial.Ran r) after ≡ concluded (ran_of r after)
+concluded_so : (r : Ran) (after : List ℕ) → conclusion_of (Ok r) after ≡ concluded (ran_of r after)
 unfolding concluded storage_of
 concluded_so (Ran.Ended e) after = refl
 concluded_so (Ran.Cut k) after = refl
 concluded_so (Ran.Limited s) after = refl
 
 module _ (last : ℕ) (p : Lent) (image faults : List ℕ) (n : ℕ) (l : Location) (st : List ℕ) where
-  pub image_refused : well_formed last image ≡ false → conclusion_of (Trial.Refused Question.Image) st ≡ begin last p image faults n l st
+  pub image_refused : well_formed last image ≡ false → conclusion_of (Err Question.Image) st ≡ begin last p image faults n l st
   unfolding begin refusal pick
   image_refused h = rw h
 
   module _ (w : well_formed last image ≡ true) where
-    pub faults_refused : sound_from (pack_of image) faults 0 ≡ false → conclusion_of (Trial.Refused Question.Faults) st ≡ begin last p image faults n l st
+    pub faults_refused : sound_from (pack_of image) faults 0 ≡ false → conclusion_of (Err Question.Faults) st ≡ begin last p image faults n l st
     unfolding begin refusal sound_from
     faults_refused h =
         kept_out (faults_at faults 0) (sound_faults (pack_of image)) (refusal st Question.Faults) (λ fs. concluded (run_from fs (setting_with last p image) n l st)) h
         ∙ sym (pick_true _ _ w)
 
-    pub ran_so : (fs : List Fault) → faults_at faults 0 ≡ some fs → sound_faults (pack_of image) fs ≡ true → (r : Ran) (after : List ℕ)
-        → run_from fs (setting_with last p image) n l st ≡ ran_of r after → conclusion_of (Trial.Ran r) after ≡ begin last p image faults n l st
+    pub ran_so : (fs : List Fault) → faults_at faults 0 ≡ Some fs → sound_faults (pack_of image) fs ≡ true → (r : Ran) (after : List ℕ)
+        → run_from fs (setting_with last p image) n l st ≡ ran_of r after → conclusion_of (Ok r) after ≡ begin last p image faults n l st
     unfolding begin pick opt
     ran_so fs e q r after ran = rw (w, e, q, ran) (concluded_so r after)
 
@@ -104,7 +103,7 @@ module _ (last : ℕ) (p : Lent) (image faults : List ℕ) (n : ℕ) (l : Locati
 
 module _ (m : Model) (chain arguments st image faults : List ℕ) (n : ℕ) where
   pub run_refused : run_areas (length chain) (length arguments) (length st) (length image) (length faults) n ≡ false
-      → conclusion_of (Trial.Refused Question.Areas) st ≡ run_call m chain arguments st image faults n
+      → conclusion_of (Err Question.Areas) st ≡ run_call m chain arguments st image faults n
   unfolding run_call refusal pick
   run_refused h = rw h
 
@@ -126,13 +125,13 @@ module _ (m : Model) (chain arguments program restart_arguments st image faults 
   areas v w e f = areas_only (length chain) (length arguments) (length program) (length restart_arguments) (length st) (length image) (length faults) v w e f
 
   pub restart_refused : run_areas (length chain) (length arguments) (length st) (length image) (length faults) 1 ≡ false
-      → conclusion_of (Trial.Refused Question.Areas) st ≡ restart_call m chain arguments program restart_arguments st image faults
+      → conclusion_of (Err Question.Areas) st ≡ restart_call m chain arguments program restart_arguments st image faults
   unfolding restart_call refusal pick
   restart_refused h = rw (areas false _ h refl)
 
   module _ (a : run_areas (length chain) (length arguments) (length st) (length image) (length faults) 1 ≡ true) where
     pub program_refused : restart_areas (length program) (length restart_arguments) ≡ false
-        → conclusion_of (Trial.Refused Question.Areas) st ≡ restart_call m chain arguments program restart_arguments st image faults
+        → conclusion_of (Err Question.Areas) st ≡ restart_call m chain arguments program restart_arguments st image faults
     unfolding restart_call refusal pick
     program_refused h = rw (areas true false a h)
 

@@ -3,10 +3,10 @@
 --   goes_on, ends_so, cut_so, out    one command more; its end, its cut, and "limit"
 --   past_first, tic_is          whether a run begins with a TIC
 --   checked_first, begun_so     the whole run: a TIC first, and any other
+use Rattle.std.specs.Prelude.{Some, None}
 use Prim.Native.Nat.{ℕ, ◌-◌, ◌<◌, ◌≤◌}
 use mathlib.Core.Path.{◌≡◌, sym, ◌∙◌}
 use mathlib.Core.Bool.{Bool, true, false}
-use mathlib.Core.Option.{none, some}
 use mathlib.Core.List.{List}
 use Rattle.base.specs.Choice.{pick, opt}
 use Rattle.faults.specs.Faults.{Fault, faults_at}
@@ -17,7 +17,6 @@ use Rattle.channel.specs.Csw.{csw_at}
 use Rattle.channel.specs.declared.Csw.{Csw}
 use Rattle.channel.specs.declared.Location.{Location}
 use Rattle.channel.specs.Ccw.{Lent, is_tic, fetch}
-use Rattle.drive.specs.declared.FileMask.TheVariants.{Unset}
 use Rattle.drive.specs.Drive as Abstract
 use Rattle.drive.specs.Step as Step
 use Rattle.drive.specs.Run.{Limit, limit_of, start, tic_first, run_from}
@@ -41,7 +40,7 @@ module _ (last : ℕ) (chain arguments program restart_arguments image faults : 
   rest fs n s st = run (Step.step fs (setting_with last (lent_of chain arguments program restart_arguments) image)) limit_of n (state_of s st)
 
   abbrev pub Alike : ℕ → State → List ℕ → ℕ → State → List ℕ → Type 0
-  Alike n s st m t u = (fs : List Fault) → faults_at faults 0 ≡ some fs → rest fs n s st ≡ rest fs m t u
+  Alike n s st m t u = (fs : List Fault) → faults_at faults 0 ≡ Some fs → rest fs n s st ≡ rest fs m t u
 
   module _ (m : ℕ) (s₀ : State) (st₀ : List ℕ) (n : ℕ) (s : State) (st : List ℕ) (same : Alike n s st m s₀ st₀) where
     pub goes_on : (t : State) (after : List ℕ) → 0 < n → Steps last chain arguments program restart_arguments image faults s st (Goes t) after
@@ -65,11 +64,11 @@ module _ (last : ℕ) (chain arguments program restart_arguments image faults : 
 -- ---- the first CCW
 
 module _ (p : Lent) (l : Location) where
-  pub past_first : none ≡ fetch p l → false ≡ tic_first p l
+  pub past_first : None ≡ fetch p l → false ≡ tic_first p l
   unfolding tic_first opt
   past_first e = rw (← e)
 
-  pub tic_is : {b : Bool} (c : Ccw) → some c ≡ fetch p l → b ≡ is_tic c → b ≡ tic_first p l
+  pub tic_is : {b : Bool} (c : Ccw) → Some c ≡ fetch p l → b ≡ is_tic c → b ≡ tic_first p l
   unfolding tic_first opt
   tic_is c e q = rw (← e) q
 
@@ -77,7 +76,7 @@ module _ (p : Lent) (l : Location) where
 
 module _ (last : ℕ) (chain arguments program restart_arguments image faults : List ℕ) (n : ℕ) (l : Location) (st : List ℕ) where
   pub checked_first : (c : Csw) → c ≡ csw_at l 0 0x20 0 → true ≡ tic_first (lent_of chain arguments program restart_arguments) l
-      → Runs last chain arguments program restart_arguments image faults n l st (Ran.Ended (record { csw = c; status = Quiet; mask = Unset })) st
+      → Runs last chain arguments program restart_arguments image faults n l st (Ran.Ended (record { csw = c; status = Quiet; mask = None })) st
   unfolding run_from pick Abstract.initial
   checked_first c e h fs q = rw (← h, e)
 

@@ -1,6 +1,5 @@
 -- A run as the code has it: the definitions' results with storage apart.
-use Rattle.std.specs.Prelude.{ℕ, ◌≡◌, Bool, List}
-use Rattle.std.proofs.Math.Option.{some}
+use Rattle.std.specs.Prelude.{ℕ, ◌≡◌, Bool, List, Some}
 use Rattle.faults.specs.Faults.{Fault, faults_at}
 use Rattle.abstract_machine.specs.Machine as Machine
 use Rattle.abstract_machine.specs.Machine.{Result, ended, cut, limit}
@@ -33,11 +32,11 @@ TicsFirst chain program l b = (p : Lent) → p.chain ≡ chain → p.program ≡
 -- at most n commands from a state and storage on, on a pack with this last cylinder: what they come to, and storage behind them
 abbrev pub RunsOn : ℕ → (chain arguments program restart_arguments image faults : List ℕ) → ℕ → State → List ℕ → Ran → List ℕ → Type 0
 RunsOn last chain arguments program restart_arguments image faults n s st r after =
-    (fs : List Fault) → faults_at faults 0 ≡ some fs
+    (fs : List Fault) → faults_at faults 0 ≡ Some fs
     → Machine.run (Step.step fs (setting_with last (lent_of chain arguments program restart_arguments) image)) limit_of n (state_of s st) ≡ ran_of r after
 
 -- the whole run, from a place and storage
 abbrev pub Runs : ℕ → (chain arguments program restart_arguments image faults : List ℕ) → ℕ → Location → List ℕ → Ran → List ℕ → Type 0
 Runs last chain arguments program restart_arguments image faults n l st r after =
-    (fs : List Fault) → faults_at faults 0 ≡ some fs
+    (fs : List Fault) → faults_at faults 0 ≡ Some fs
     → run_from fs (setting_with last (lent_of chain arguments program restart_arguments) image) n l st ≡ ran_of r after

@@ -1,6 +1,5 @@
 -- The trial drive's calls: a run of a chain, and a run of a restart program (document 01, "Bounds of the work").
-use Rattle.std.specs.Prelude.{ℕ, Bool, true, false, ◌&&◌, List, [], length}
-use Rattle.std.proofs.Math.Option.{Option, none, some}
+use Rattle.std.specs.Prelude.{ℕ, Bool, true, false, ◌&&◌, List, [], length, Option, Some, None, Result, Ok, Err}
 use Rattle.base.specs.Choice.{pick, opt}
 use Rattle.questions.specs.declared.Question.{Question}
 use Rattle.questions.specs.Areas.{chain_fits, arguments_fit, storage_fits, image_fits, faults_fit, run_areas, restart_areas, restart_limit}
@@ -9,17 +8,16 @@ use Rattle.address.specs.Model.{last_of}
 use Rattle.pack.specs.Pack.{pack_of}
 use Rattle.image.specs.Image.{well_formed}
 use Rattle.faults.specs.Faults.{faults_at, sound_faults}
-use Rattle.abstract_machine.specs.Machine.{Result, ended, cut, limit}
+use Rattle.abstract_machine.specs.Machine.{Result as RunResult, ended, cut, limit}
 use Rattle.channel.specs.declared.Location.{Location}
 use Rattle.channel.specs.declared.Location.TheVariants.{Chain, Restart}
 use Rattle.channel.specs.declared.Csw.{Csw}
 use Rattle.channel.specs.Ccw.{Lent, address_of}
-use Rattle.drive.specs.declared.FileMask.{FileMask}
 use Rattle.drive.specs.Step.{End, Cut, no_sense, cut_sense}
 use Rattle.drive.specs.Run.{Limit, run_from}
 use Rattle.command.specs.Answer.{setting_with, lent_of}
-use Rattle.trial.specs.declared.Trial.{Trial}
 use Rattle.trial.specs.Run.{ran_of, RanLow}
+use Rattle.trial.specs.declared.Ran.{Ran}
 
 -- ---- what a run shows
 
@@ -28,17 +26,17 @@ pub record Shown : Type 0 where
   pub limited : Bool
   pub csw : Csw
   pub sense : List ℕ
-  pub mask : FileMask
+  pub mask : Option ℕ
   pub first : Option ℕ
 
 -- "answers 'limit' with its last CSW"
-unfoldable pub shown_of : Result Limit End Cut → Shown
-shown_of (ended e) = record { limited = false; csw = e.csw; sense = e.sense; mask = e.mask; first = none }
-shown_of (cut k) = record { limited = false; csw = k.csw; sense = cut_sense k; mask = k.mask; first = some (address_of k.first) }
-shown_of (limit m) = record { limited = true; csw = m.csw; sense = no_sense; mask = m.mask; first = none }
+unfoldable pub shown_of : RunResult Limit End Cut → Shown
+shown_of (ended e) = record { limited = false; csw = e.csw; sense = e.sense; mask = e.mask; first = None }
+shown_of (cut k) = record { limited = false; csw = k.csw; sense = cut_sense k; mask = k.mask; first = Some (address_of k.first) }
+shown_of (limit m) = record { limited = true; csw = m.csw; sense = no_sense; mask = m.mask; first = None }
 
 -- storage as the run leaves it
-unfoldable pub storage_of : Result Limit End Cut → List ℕ
+unfoldable pub storage_of : RunResult Limit End Cut → List ℕ
 storage_of (ended e) = e.storage
 storage_of (cut k) = k.storage
 storage_of (limit m) = m.storage
@@ -48,7 +46,7 @@ storage_of (limit m) = m.storage
 -- a refusal, or all that the run comes to
 pub data Called : Type 0 where
   refused : Question → Called
-  answered : Result Limit End Cut → Called
+  answered : RunResult Limit End Cut → Called
 
 -- What a call answers, and storage behind it.
 pub record Conclusion : Type 0 where
@@ -60,7 +58,7 @@ unfoldable pub refusal : List ℕ → Question → Conclusion
 refusal st q = record { answer = refused q; storage = st }
 
 -- what a run comes to, and storage as it leaves it
-unfoldable pub concluded : Result Limit End Cut → Conclusion
+unfoldable pub concluded : RunResult Limit End Cut → Conclusion
 concluded r = record { answer = answered r; storage = storage_of r }
 
 -- "2. Is the image well formed? 3. Is each fault well formed and its record in the image?" Then the run, with the faults of the list.
@@ -93,15 +91,15 @@ restart_call m chain arguments program restart_arguments st image faults =
 -- ---- the code's answers
 
 -- an answer of the code, with storage behind it
-abbrev pub called_of : Trial → List ℕ → Called
-called_of (Trial.Refused q) st = refused q
-called_of (Trial.Ran r) st = answered (ran_of r st)
+abbrev pub called_of : Result Ran Question → List ℕ → Called
+called_of (Err q) st = refused q
+called_of (Ok r) st = answered (ran_of r st)
 
 -- the same, with that storage beside it
-abbrev pub conclusion_of : Trial → List ℕ → Conclusion
+abbrev pub conclusion_of : Result Ran Question → List ℕ → Conclusion
 conclusion_of t st = record { answer = called_of t st; storage = st }
 
 -- what a call shows of a run fits its bytes
-abbrev pub TrialLow : Trial → Type 0
-TrialLow (Trial.Refused q) = Unit {0}
-TrialLow (Trial.Ran r) = RanLow r
+abbrev pub TrialLow : Result Ran Question → Type 0
+TrialLow (Err q) = Unit {0}
+TrialLow (Ok r) = RanLow r

@@ -11,9 +11,8 @@ ghost use Rattle.trial.specs.Run.{TicsFirst, RunsOn, Runs, RanLow};
 ghost use Rattle.trial.specs.Trial.{run_call, restart_call, conclusion_of, TrialLow};
 
 use address::Model;
-use channel::{Csw, Location, Slot};
+use channel::{Csw, Location};
 use command::{Answer, Cut, End, State, Status};
-use drive::FileMask;
 use position::Drive;
 use questions::Question;
 
@@ -21,7 +20,7 @@ use questions::Question;
 #[derive(Clone, Copy)]
 pub struct Limit {
     pub csw: Csw,
-    pub mask: FileMask,
+    pub mask: Option<u8>,
 }
 
 // What a run comes to: an end, a cut by a faulted data area, or "limit".
@@ -32,13 +31,6 @@ pub enum Ran {
     Limited(Limit),
 }
 
-// What a call comes to: a refusal, or the run.
-#[derive(Clone, Copy)]
-pub enum Trial {
-    Refused(Question),
-    Ran(Ran),
-}
-
 // ---- the run
 
 // Whether a run begins with a TIC.
@@ -46,8 +38,8 @@ fn tic_first(chain: &[u8], program: &[u8], from: Location) -> bool
     ensures { TicsFirst chain.now program.now from result }
 {
     match channel::fetch(chain, program, from) {
-        Slot::Holds(c) => c.is_tic(),
-        Slot::Past => false,
+        Some(c) => c.is_tic(),
+        None => false,
     }
 }
 
@@ -74,9 +66,7 @@ fn run_on(
     ensures ran_low { RanLow result }
 {
     let mut here = s;
-    let mut left = limit;
-    while left > 0 {
-        left -= 1;
+    for _ in 0..limit {
         match execute::step(
             m,
             chain,
@@ -133,7 +123,7 @@ pub fn run_from(
         return Ran::Ended(End {
             csw: location::csw_at(from, 0, channel::PROGRAM_CHECK, 0),
             status: Status::Quiet,
-            mask: FileMask::Unset,
+            mask: None,
         });
     }
     let s = State {
@@ -170,7 +160,7 @@ fn begin(
     limit: usize,
     from: Location,
     storage: &mut [u8],
-) -> Trial
+) -> Result<Ran, Question>
     requires chain_len_bound { (length chain.now ≤ 2048) × (length program.now ≤ 64) }
     requires low { Low from }
     ensures storage_after { let lent = lent_of chain.now arguments.now program.now restart_arguments.now in
@@ -179,12 +169,12 @@ fn begin(
     ensures trial_low { TrialLow result }
 {
     if !image::well_formed(m, image) {
-        return Trial::Refused(Question::Image);
+        return Err(Question::Image);
     }
     if !faults::sound_faults(image, faults) {
-        return Trial::Refused(Question::Faults);
+        return Err(Question::Faults);
     }
-    Trial::Ran(run_from(
+    Ok(run_from(
         m,
         chain,
         arguments,
@@ -207,7 +197,7 @@ pub fn run(
     image: &[u8],
     faults: &[u8],
     limit: usize,
-) -> Trial
+) -> Result<Ran, Question>
     ensures storage_after { let called = run_call m chain.now arguments.now storage.old image.now faults.now limit in
         conclusion_of result storage.new ≡ called }
     ensures trial_low { TrialLow result }
@@ -220,7 +210,7 @@ pub fn run(
         faults.len(),
         limit,
     ) {
-        return Trial::Refused(Question::Areas);
+        return Err(Question::Areas);
     }
     begin(
         m,
@@ -247,7 +237,7 @@ pub fn run_restart(
     storage: &mut [u8],
     image: &[u8],
     faults: &[u8],
-) -> Trial
+) -> Result<Ran, Question>
     ensures storage_after { let called = restart_call m chain.now arguments.now program.now restart_arguments.now
         storage.old image.now faults.now in
         conclusion_of result storage.new ≡ called }
@@ -261,10 +251,10 @@ pub fn run_restart(
         faults.len(),
         1,
     ) {
-        return Trial::Refused(Question::Areas);
+        return Err(Question::Areas);
     }
     if !questions::restart_areas(program.len(), restart_arguments.len()) {
-        return Trial::Refused(Question::Areas);
+        return Err(Question::Areas);
     }
     begin(
         m,

@@ -3,10 +3,10 @@
 --   limit_low                     what it says of the limit
 --   areas_say                     and of the areas
 --   wrong-areas .. read-so        the questions in order, and the reading behind them
+use Rattle.std.specs.Prelude.{Some, Ok, Err}
 use Prim.Native.Nat.{ℕ, ◌*◌, ◌≤◌}
 use mathlib.Core.Path.{◌≡◌, ap, sym, subst, ◌∙◌}
 use mathlib.Core.Bool.{Bool, true, false, ◌&&◌}
-use mathlib.Core.Option.{some}
 use mathlib.Core.List.{List, []}
 use lib.Dec.{eqb, leb}
 use lib.ListN.{length}
@@ -34,7 +34,6 @@ use Rattle.recovery.specs.Table.{rows}
 use Rattle.demand_three.specs.WholeReading.{whole_reading}
 use Rattle.reading_cut.specs.Cut.{Areas, lent_areas}
 use Rattle.reading_runs.specs.declared.Over.{Over}
-use Rattle.reading_runs.specs.declared.Outcome.TheVariants as Outcome
 use Rattle.reading_runs.specs.Conclusion.{Conclusion, leaving, concluded}
 use Rattle.whole_reading.specs.Reading.{reading_areas, reading_call, Answers}
 use Rattle.reading_runs.specs.On.{told_of, no_log, read_on, ReadsOn}
@@ -114,12 +113,12 @@ module _ (m : Model) (chain arguments st image faults extent : List ℕ) (n : �
   abbrev areas : Bool
   areas = reading_areas (length chain) (length arguments) (length st) (length image) (length faults) (length extent) n (length p) (length a) (length l)
 
-  pub wrong_areas : areas ≡ false → Comes (leaving (Outcome.Refused Question.Areas) st p a l)
+  pub wrong_areas : areas ≡ false → Comes (leaving (Err Question.Areas) st p a l)
   unfolding reading_call
   wrong_areas h = sym (pick_false _ _ h)
 
   module _ (h : areas ≡ true) where
-    pub ill_image : well_formed (last_of m) image ≡ false → Comes (leaving (Outcome.Refused Question.Image) st p a l)
+    pub ill_image : well_formed (last_of m) image ≡ false → Comes (leaving (Err Question.Image) st p a l)
     unfolding reading_call
     ill_image w = sym (pick_true _ _ h ∙ pick_false _ _ w)
 
@@ -128,25 +127,25 @@ module _ (m : Model) (chain arguments st image faults extent : List ℕ) (n : �
       abbrev with_faults : List Fault → Conclusion
       with_faults fs =
           pick (sound_extent (extent_of m extent))
-          (concluded (whole_reading fs (setting_with (last_of m) (lent_of chain arguments [] []) image) rows (extent_of m extent) n st) p a l) (leaving (Outcome.Refused Question.Extent) st p a l)
+          (concluded (whole_reading fs (setting_with (last_of m) (lent_of chain arguments [] []) image) rows (extent_of m extent) n st) p a l) (leaving (Err Question.Extent) st p a l)
 
-      pub ill_faults : sound_from (pack_of image) faults 0 ≡ false → Comes (leaving (Outcome.Refused Question.Faults) st p a l)
+      pub ill_faults : sound_from (pack_of image) faults 0 ≡ false → Comes (leaving (Err Question.Faults) st p a l)
       unfolding reading_call sound_from
       ill_faults g =
-          kept_out (faults_at faults 0) (sound_faults (pack_of image)) (leaving (Outcome.Refused Question.Faults) st p a l) with_faults g
+          kept_out (faults_at faults 0) (sound_faults (pack_of image)) (leaving (Err Question.Faults) st p a l) with_faults g
           ∙ sym (pick_true _ _ h ∙ pick_true _ _ w)
 
-      module _ (fs : List Fault) (e : faults_at faults 0 ≡ some fs) (q : sound_faults (pack_of image) fs ≡ true) (x : Extent) (i : x ≡ extent_of m extent) where
+      module _ (fs : List Fault) (e : faults_at faults 0 ≡ Some fs) (q : sound_faults (pack_of image) fs ≡ true) (x : Extent) (i : x ≡ extent_of m extent) where
         after_faults : (c : Conclusion) → c ≡ with_faults fs → Comes c
         unfolding reading_call opt
         after_faults c k = k ∙ sym (pick_true _ _ h ∙ pick_true _ _ w ∙ rw e (pick_true _ _ q))
 
-        pub off_pack : sound_extent x ≡ false → Comes (leaving (Outcome.Refused Question.Extent) st p a l)
+        pub off_pack : sound_extent x ≡ false → Comes (leaving (Err Question.Extent) st p a l)
         off_pack g = after_faults _ (sym (pick_false _ _ (ap sound_extent (sym i) ∙ g)))
 
         pub read_so : sound_extent x ≡ true → (first : Ran) (after : List ℕ) → Runs (last_of m) chain arguments [] [] image faults n (Chain 0) st first after
             → (o : Over) (y : Areas) → ReadsOn chain arguments image faults x n first (lent_areas after p a l) o y
-            → Comes (leaving (Outcome.Over o) y.storage y.program y.restart_arguments y.list)
+            → Comes (leaving (Ok o) y.storage y.program y.restart_arguments y.list)
         unfolding whole_reading extent_of
         read_so g first after runs o y reads =
             after_faults _

@@ -1,5 +1,5 @@
 -- The whole reading as a call: the questions that it asks first, then what it comes to (document 01, "Bounds of the work").
-use Rattle.std.specs.Prelude.{ℕ, ◌*◌, ◌≡◌, Bool, ◌&&◌, List, [], eqb, leb, length}
+use Rattle.std.specs.Prelude.{ℕ, ◌*◌, ◌≡◌, Bool, ◌&&◌, List, [], eqb, leb, length, Err}
 use Rattle.base.specs.Choice.{pick, opt}
 use Rattle.questions.specs.declared.Question.{Question}
 use Rattle.questions.specs.Areas.{run_areas, restart_areas}
@@ -12,7 +12,6 @@ use Rattle.faults.specs.Faults.{faults_at, sound_faults}
 use Rattle.command.specs.Answer.{setting_with, lent_of}
 use Rattle.recovery.specs.Table.{rows}
 use Rattle.demand_three.specs.WholeReading.{whole_reading}
-use Rattle.reading_runs.specs.declared.Outcome.TheVariants.{Refused}
 use Rattle.reading_runs.specs.Conclusion.{Conclusion, leaving, concluded}
 
 -- "1. Are all areas and limits as above?" The list has 6 bytes for each recovery that the limit allows, or more.
@@ -25,14 +24,14 @@ unfoldable pub reading_call : Model → (chain arguments st image faults extent 
 reading_call m chain arguments st image faults extent n p a l =
     pick (reading_areas (length chain) (length arguments) (length st) (length image) (length faults) (length extent) n (length p) (length a) (length l))
     (pick (well_formed (last_of m) image)
-    (opt (faults_at faults 0) (leaving (Refused Question.Faults) st p a l)
+    (opt (faults_at faults 0) (leaving (Err Question.Faults) st p a l)
     (λ fs.
     pick (sound_faults (pack_of image) fs)
     (pick (sound_extent (extent_of m extent))
-    (concluded (whole_reading fs (setting_with (last_of m) (lent_of chain arguments [] []) image) rows (extent_of m extent) n st) p a l) (leaving (Refused Question.Extent) st p a l))
-    (leaving (Refused Question.Faults) st p a l)))
-    (leaving (Refused Question.Image) st p a l))
-    (leaving (Refused Question.Areas) st p a l)
+    (concluded (whole_reading fs (setting_with (last_of m) (lent_of chain arguments [] []) image) rows (extent_of m extent) n st) p a l) (leaving (Err Question.Extent) st p a l))
+    (leaving (Err Question.Faults) st p a l)))
+    (leaving (Err Question.Image) st p a l))
+    (leaving (Err Question.Areas) st p a l)
 
 -- The contract of the call: with these areas and this limit, on a pack of this model, it comes to c, its answer and what it leaves in the areas that it may write.
 abbrev pub Answers : Model → (chain arguments st image faults extent : List ℕ) → ℕ → (p a l : List ℕ) → Conclusion → Type 0

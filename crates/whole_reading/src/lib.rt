@@ -8,7 +8,7 @@ ghost use Rattle.whole_reading.specs.Reading.{reading_areas, Answers};
 use address::Model;
 use channel::Location;
 use questions::Question;
-use reading_runs::Outcome;
+use reading_runs::Over;
 
 // Question 1, from the lengths of the areas and the command limit.
 fn areas_fit(
@@ -50,7 +50,7 @@ pub fn read(
     program: &mut [u8],
     restart_arguments: &mut [u8],
     list: &mut [u8],
-) -> Outcome
+) -> Result<Over, Question>
     ensures answers { let after = leaving result storage.new program.new restart_arguments.new list.new in
         Answers m chain.now arguments.now storage.old image.now faults.now
         extent.now limit program.old restart_arguments.old list.old after }
@@ -69,17 +69,17 @@ pub fn read(
         restart_arguments.len(),
         list.len(),
     ) {
-        return Outcome::Refused(Question::Areas);
+        return Err(Question::Areas);
     }
     if !image::well_formed(m, image) {
-        return Outcome::Refused(Question::Image);
+        return Err(Question::Image);
     }
     if !faults::sound_faults(image, faults) {
-        return Outcome::Refused(Question::Faults);
+        return Err(Question::Faults);
     }
     let x = address::extent_of(m, extent);
     if !x.on_pack() {
-        return Outcome::Refused(Question::Extent);
+        return Err(Question::Extent);
     }
     let first = trial::run_from(
         m,
@@ -93,7 +93,7 @@ pub fn read(
         Location::Chain(0),
         storage,
     );
-    Outcome::Over(reading_runs::read_on(
+    Ok(reading_runs::read_on(
         chain,
         arguments,
         image,

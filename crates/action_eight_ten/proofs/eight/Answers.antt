@@ -9,22 +9,22 @@ returns-in_default c = record { acts = eight_no_track _ c.args.t c.in_default.is
 
 pub returns-in_default-interrupted : goal.returns-in_default-interrupted
 returns-in_default-interrupted c =
-    let a = c.args in record { acts = eight_no_ccw _ a.t _ c.in-Track.is (rw c.in_default-interrupted.is at c.interrupted.ensures.interrupts); goes_low = tt }
+    let a = c.args in record { acts = eight_no_ccw _ a.t _ c.in-Some.is (rw c.in_default-interrupted.is at c.interrupted.ensures.interrupts); goes_low = tt }
 
 pub next_cylinder-requires : goal.next_cylinder-requires
-next_cylinder-requires c = (rw c.in-Track.is at c.requires.told_low.user_low).0
+next_cylinder-requires c = (rw c.in-Some.is at c.requires.told_low.user_low).0
 
 pub overflow_sub-csw : goal.overflow_sub-csw
 overflow_sub-csw c =
-    let there = rw c.in-Holds.is at c.interrupted.ensures.behind in
+    let there = rw c.in-Some-interrupted.is at c.interrupted.ensures.behind in
     there.0
 
 pub home-requires : goal.home-requires
 home-requires c =
-    let there = rw c.in-Holds.is at c.interrupted.ensures.behind in
+    let there = rw c.in-Some-interrupted.is at c.interrupted.ensures.behind in
     let short = c.requires.chain_len_bound in record { to_bound = omega (arith, there.1, short); kind_value = refl }
 
 pub returns : goal.returns
 returns c =
     let a = c.args in
-    let there = rw c.in-Holds.is at c.interrupted.ensures.interrupts in record { acts = eight_goes _ a.t _ c.in-Track.is _ there _ _ c.next_cylinder.ensures c.home.ensures.homes; goes_low = c.home.ensures.goes_low }
+    let there = rw c.in-Some-interrupted.is at c.interrupted.ensures.interrupts in record { acts = eight_goes _ a.t _ c.in-Some.is _ there _ _ c.next_cylinder.ensures c.home.ensures.homes; goes_low = c.home.ensures.goes_low }

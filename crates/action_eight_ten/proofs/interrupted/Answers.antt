@@ -13,10 +13,10 @@ returns-in_default c = record { interrupts = none_there _ _ c.if-csw-lt8.false (
 
 pub returns-then-is_tic : goal.returns-then-is_tic
 returns-then-is_tic c =
-    let there = ccw_there _ _ _ (rw c.in-Holds.is at c.fetch.ensures.fetches) in record { interrupts = tic_there _ _ c.if-csw-lt8.false _ there (sym c.is_tic.ensures ∙ c.if-is_tic.true); behind = tt }
+    let there = ccw_there _ _ _ (rw c.in-Some.is at c.fetch.ensures.fetches) in record { interrupts = tic_there _ _ c.if-csw-lt8.false _ there (sym c.is_tic.ensures ∙ c.if-is_tic.true); behind = tt }
 
 pub returns : goal.returns
 returns c =
     let high = c.if-csw-lt8.false in
-    let there = ccw_there _ _ _ (rw c.in-Holds.is at c.fetch.ensures.fetches) in
-    let inside = rw c.in-Holds.is at c.fetch.ensures.fetched_from in record { interrupts = stands_there _ _ high _ there (sym c.is_tic.ensures ∙ c.if-is_tic.false); behind = (high, omega (arith, high, inside.0)) }
+    let there = ccw_there _ _ _ (rw c.in-Some.is at c.fetch.ensures.fetches) in
+    let inside = rw c.in-Some.is at c.fetch.ensures.fetched_from in record { interrupts = stands_there _ _ high _ there (sym c.is_tic.ensures ∙ c.if-is_tic.false); behind = (high, omega (arith, high, inside.0)) }

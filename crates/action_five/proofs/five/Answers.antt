@@ -16,18 +16,18 @@ returns-in_default c =
 pub returns-then-not-reads_data : goal.returns-then-not-reads_data
 returns-then-not-reads_data c =
     let a = c.args in
-    let no = ap reads_data (sym c.command_of.ensures) ∙ sym c.reads_data.ensures ∙ c.if-not-reads_data.true in record { decides = not_data a.chain.now a.size a.t c.if-s-ne83.false _ (ccw_there _ _ _ (rw c.in-Holds.is at c.fetch.ensures.fetches)) no; goes_low = tt }
+    let no = ap reads_data (sym c.from.ensures) ∙ sym c.reads_data.ensures ∙ c.if-not-reads_data.true in record { decides = not_data a.chain.now a.size a.t c.if-s-ne83.false _ (ccw_there _ _ _ (rw c.in-Some.is at c.fetch.ensures.fetches)) no; goes_low = tt }
 
 pub returns-then-not-sensible : goal.returns-then-not-sensible
 returns-then-not-sensible c =
     let a = c.args in
-    let yes = ap reads_data (sym c.command_of.ensures) ∙ sym c.reads_data.ensures ∙ c.if-not-reads_data.false in record { decides = not_sensible a.chain.now a.size a.t c.if-s-ne83.false _ (ccw_there _ _ _ (rw c.in-Holds.is at c.fetch.ensures.fetches)) yes _ c.sensible.ensures.sensible (c.if-not-sensible.true); goes_low = tt }
+    let yes = ap reads_data (sym c.from.ensures) ∙ sym c.reads_data.ensures ∙ c.if-not-reads_data.false in record { decides = not_sensible a.chain.now a.size a.t c.if-s-ne83.false _ (ccw_there _ _ _ (rw c.in-Some.is at c.fetch.ensures.fetches)) yes _ c.sensible.ensures.sensible (c.if-not-sensible.true); goes_low = tt }
 
 pub retraced-requires : goal.retraced-requires
 retraced-requires c =
-    let there = rw c.in-Holds.is at c.fetch.ensures.fetched_from in record { chain_len_bound = c.requires; inside = there.0; in_bytes = there.1; in_bounds = c.sensible.ensures.in_bounds (c.if-not-sensible.false) }
+    let there = rw c.in-Some.is at c.fetch.ensures.fetched_from in record { chain_len_bound = c.requires; inside = there.0; in_bytes = there.1; in_bounds = c.sensible.ensures.in_bounds (c.if-not-sensible.false) }
 
 pub returns : goal.returns
 returns c =
     let a = c.args in
-    let yes = ap reads_data (sym c.command_of.ensures) ∙ sym c.reads_data.ensures ∙ c.if-not-reads_data.false in record { decides = goes_over a.chain.now a.size a.t c.if-s-ne83.false _ (ccw_there _ _ _ (rw c.in-Holds.is at c.fetch.ensures.fetches)) yes _ c.sensible.ensures.sensible _ (c.if-not-sensible.false) c.retraced.ensures.decides_retraced; goes_low = c.retraced.ensures.goes_low }
+    let yes = ap reads_data (sym c.from.ensures) ∙ sym c.reads_data.ensures ∙ c.if-not-reads_data.false in record { decides = goes_over a.chain.now a.size a.t c.if-s-ne83.false _ (ccw_there _ _ _ (rw c.in-Some.is at c.fetch.ensures.fetches)) yes _ c.sensible.ensures.sensible _ (c.if-not-sensible.false) c.retraced.ensures.decides_retraced; goes_low = c.retraced.ensures.goes_low }

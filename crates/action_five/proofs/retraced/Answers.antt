@@ -15,16 +15,16 @@ pub walked_to-requires : goal.walked_to-requires
 walked_to-requires c =
     let a = c.args in
     let traces = rw c.from_front-k.ensures at c.retrace.ensures in
-    let right = sym c.readable.ensures ∙ c.if-not-readable.false in record { chain_len_bound = c.requires.chain_len_bound; inside = ended_inside a.chain.now a.size a.t a.c right _ traces _ c.in-Ended.is c.requires.inside }
+    let right = sym c.readable.ensures ∙ c.if-not-readable.false in record { chain_len_bound = c.requires.chain_len_bound; inside = ended_inside a.chain.now a.size a.t a.c right _ traces _ c.in-Some.is c.requires.inside }
 
-pub returns-in-Checked : goal.returns-in-Checked
-returns-in-Checked c =
+pub returns-in-None : goal.returns-in-None
+returns-in-None c =
     let a = c.args in
     let traces = rw c.from_front-k.ensures at c.retrace.ensures in
-    let right = sym c.readable.ensures ∙ c.if-not-readable.false in record { decides_retraced = retrace_checked a.chain.now a.size a.t a.c right _ traces c.in-Checked.is; goes_low = tt }
+    let right = sym c.readable.ensures ∙ c.if-not-readable.false in record { decides_retraced = retrace_checked a.chain.now a.size a.t a.c right _ traces c.in-None.is; goes_low = tt }
 
-pub returns-in-Ended : goal.returns-in-Ended
-returns-in-Ended c =
+pub returns-in-Some : goal.returns-in-Some
+returns-in-Some c =
     let a = c.args in
     let traces = rw c.from_front-k.ensures at c.retrace.ensures in
-    let right = sym c.readable.ensures ∙ c.if-not-readable.false in record { decides_retraced = retrace_ended a.chain.now a.size a.t a.c right _ traces _ c.in-Ended.is _ c.walked_to.ensures.walked_to; goes_low = c.walked_to.ensures.goes_low }
+    let right = sym c.readable.ensures ∙ c.if-not-readable.false in record { decides_retraced = retrace_ended a.chain.now a.size a.t a.c right _ traces _ c.in-Some.is _ c.walked_to.ensures.walked_to; goes_low = c.walked_to.ensures.goes_low }

@@ -7,11 +7,11 @@ returns-in_default c =
     let a = c.args in record { decides = nine_no_track a.chain.now a.size a.t c.in_default.is; goes_low = tt }
 
 pub next_cylinder-requires : goal.next_cylinder-requires
-next_cylinder-requires c = (rw c.in-Track.is at c.requires.told_low.user_low).0
+next_cylinder-requires c = (rw c.in-Some.is at c.requires.told_low.user_low).0
 
 pub overflow_at-requires : goal.overflow_at-requires
 overflow_at-requires c = record { chain_len_bound = c.requires.chain_len_bound; size_bound = c.requires.size_bound }
 
 pub returns : goal.returns
 returns c =
-    let a = c.args in record { decides = nine_goes a.chain.now a.size a.t _ c.in-Track.is _ _ c.next_cylinder.ensures c.overflow_at.ensures.overflows; goes_low = c.overflow_at.ensures.goes_low }
+    let a = c.args in record { decides = nine_goes a.chain.now a.size a.t _ c.in-Some.is _ _ c.next_cylinder.ensures c.overflow_at.ensures.overflows; goes_low = c.overflow_at.ensures.goes_low }

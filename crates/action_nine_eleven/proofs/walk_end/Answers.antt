@@ -31,11 +31,11 @@ overflow_sub-more c =
 pub next_usable-requires : goal.next_usable-requires
 next_usable-requires c = c.loop-here.invariant.1
 
-pub returns-in-Broken : goal.returns-in-Broken
-returns-in-Broken c =
+pub returns-in-Err : goal.returns-in-Err
+returns-in-Err c =
     let a = c.args in
     let on = sym c.last_of.ensures ∙ c.if-last_of.false in
-    let q = rw c.in-Broken.is at c.next_usable.ensures.next_usable in record { walks_to = λ p e f. end_broken p a.size c.loop-here.more c.loop-here.here c.loop-here.word (positive _ _ c.loop-here.invariant.2) on _ (q p e f) ∙ c.loop-here.invariant.3 p e f; end_usable = tt }
+    let q = rw c.in-Err.is at c.next_usable.ensures.next_usable in record { walks_to = λ p e f. end_broken p a.size c.loop-here.more c.loop-here.here c.loop-here.word (positive _ _ c.loop-here.invariant.2) on _ (q p e f) ∙ c.loop-here.invariant.3 p e f; end_usable = tt }
 
 pub loop-here-smaller : goal.loop-here-smaller
 loop-here-smaller c =
@@ -46,8 +46,8 @@ pub loop-here-preserved : goal.loop-here-preserved
 loop-here-preserved c =
     let a = c.args in
     let on = sym c.last_of.ensures ∙ c.if-last_of.false in
-    let q = rw c.in-Got.is at c.next_usable.ensures.next_usable in
-    let g = rw c.in-Got.is at c.next_usable.ensures.usable in (
+    let q = rw c.in-Ok.is at c.next_usable.ensures.next_usable in
+    let g = rw c.in-Ok.is at c.next_usable.ensures.usable in (
       g.1,
       g.0,
       g.2,

@@ -2,10 +2,10 @@
 use Rattle.drive.specs.Step as Step
 use Rattle.control.proofs.is_set.Goals as goal
 
-pub returns-in-Unset : goal.returns-in-Unset
+pub returns-in-None : goal.returns-in-None
 unfolding Step.is_set
-returns-in-Unset c = rw c.in-Unset.is
+returns-in-None c = rw c.in-None.is
 
-pub returns-in-Set : goal.returns-in-Set
+pub returns-in-Some : goal.returns-in-Some
 unfolding Step.is_set
-returns-in-Set c = rw c.in-Set.is
+returns-in-Some c = rw c.in-Some.is

@@ -3,14 +3,14 @@ use mathlib.Core.Path.{sym, ◌∙◌}
 use Rattle.drive.specs.Step as Step
 use Rattle.control.proofs.protects.Goals as goal
 
-pub returns-in-Unset : goal.returns-in-Unset
+pub returns-in-None : goal.returns-in-None
 unfolding Step.protects
-returns-in-Unset c = rw c.in-Unset.is
+returns-in-None c = rw c.in-None.is
 
 pub returns-then-bit : goal.returns-then-bit
 unfolding Step.protects
-returns-then-bit c = rw (c.in-Set.is, sym c.bit.ensures ∙ c.if-bit.true)
+returns-then-bit c = rw (c.in-Some.is, sym c.bit.ensures ∙ c.if-bit.true)
 
-pub returns-in-Set : goal.returns-in-Set
+pub returns-in-Some : goal.returns-in-Some
 unfolding Step.protects
-returns-in-Set c = rw (c.in-Set.is, sym c.bit.ensures ∙ c.if-bit.false) c.bit-in-Set.ensures
+returns-in-Some c = rw (c.in-Some.is, sym c.bit.ensures ∙ c.if-bit.false) c.bit-in-Some.ensures

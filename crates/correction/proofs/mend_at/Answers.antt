@@ -3,10 +3,10 @@ use Rattle.base.specs.Bits.{xored_at}
 use Rattle.recovery.specs.Correct.{mend}
 use Rattle.correction.proofs.mend_at.Goals as goal
 
-pub returns-in-At : goal.returns-in-At
+pub returns-in-Some : goal.returns-in-Some
 unfolding mend xored_at
-returns-in-At c = rw c.in-At.is c.exclusive_or.ensures
+returns-in-Some c = rw c.in-Some.is c.exclusive_or.ensures
 
-pub returns-in-Nowhere : goal.returns-in-Nowhere
+pub returns-in-None : goal.returns-in-None
 unfolding mend
-returns-in-Nowhere c = rw c.in-Nowhere.is
+returns-in-None c = rw c.in-None.is

@@ -31,12 +31,12 @@ returns-then-last_of c =
 pub next_usable-requires : goal.next_usable-requires
 next_usable-requires c = c.loop-here.invariant.2
 
-pub returns-in-Broken : goal.returns-in-Broken
-returns-in-Broken c =
+pub returns-in-Err : goal.returns-in-Err
+returns-in-Err c =
     let pre = c.args in
     let i = c.loop-here.invariant.4 in
     let more = sym c.last_of.ensures ∙ c.if-last_of.false in
-    let q = rw c.in-Broken.is at c.next_usable.ensures.next_usable in
+    let q = rw c.in-Err.is at c.next_usable.ensures.next_usable in
     λ p u v.
     retraced_broken p pre.size pre.n _ i.0 c.loop-here.here c.loop-here.word c.loop-here.from (i.3 p u v) _ c.lesser-took.ensures.value
     (positive _ _ c.loop-here.invariant.3) more pre.k _ (q p u v)
@@ -52,8 +52,8 @@ loop-here-preserved c =
     let i = c.loop-here.invariant.4 in
     let took = c.lesser-took.result in
     let more = sym c.last_of.ensures ∙ c.if-last_of.false in
-    let q = rw c.in-Got.is at c.next_usable.ensures.next_usable in
-    let g = rw c.in-Got.is at c.next_usable.ensures.usable in (
+    let q = rw c.in-Ok.is at c.next_usable.ensures.next_usable in
+    let g = rw c.in-Ok.is at c.next_usable.ensures.usable in (
       omega (arith, c.loop-here.invariant.0, c.lesser-took.ensures.upper_bound),
       g.1,
       g.0,

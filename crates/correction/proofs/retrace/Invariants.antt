@@ -1,9 +1,9 @@
 -- `correction::retrace` meets its contract. Invariant: the places so far, with the rest of the walk behind them, are the whole walk.
 -- Measure: the bytes left; each CCW takes at least one. Assumes nothing.
+use Rattle.std.specs.Prelude.{Option}
 use Prim.Native.Nat.{ℕ, ◌-◌, ◌≤◌}
 use mathlib.Core.Path.{◌≡◌}
 use mathlib.Core.Bool.{true}
-use mathlib.Core.Option.{Option}
 use mathlib.Core.List.{List, []}
 use lib.ListN.{length}
 use Rattle.channel.specs.Ccw.{Lent}

@@ -7,12 +7,12 @@ returns-in_default c = overwritten_nowhere _ _ _ c.in_default.is
 
 pub returns-then-a-c : goal.returns-then-a-c
 returns-then-a-c c =
-    overwritten_below c.args.c _ _ _ c.in-At.is c.if-a-c.true
+    overwritten_below c.args.c _ _ _ c.in-Some.is c.if-a-c.true
 
 pub returns-then-a-c-2 : goal.returns-then-a-c-2
 returns-then-a-c-2 c =
-    overwritten_hit c.args.c _ _ _ c.in-At.is c.if-a-c.false c.if-a-c-2.true
+    overwritten_hit c.args.c _ _ _ c.in-Some.is c.if-a-c.false c.if-a-c-2.true
 
 pub returns : goal.returns
 returns c =
-    overwritten_past c.args.c _ _ _ c.in-At.is c.if-a-c.false c.if-a-c-2.false
+    overwritten_past c.args.c _ _ _ c.in-Some.is c.if-a-c.false c.if-a-c-2.false

@@ -1,6 +1,5 @@
--- `error_table::row_for` meets its contract. Invariant: of the rows left, the first that fits is that of the whole table. Measure: the rows left.
--- Assumes nothing.
-use Prim.Native.Nat.{◌+◌, ◌-◌}
+-- `error_table::row_for` meets its contract. Invariant: of the rows left, the first that fits is that of the whole table. Assumes nothing.
+use Prim.Native.Nat.{◌+◌}
 use mathlib.Core.Path.{◌≡◌}
 use mathlib.Core.List.{[], ◌∷◌}
 use lib.ListN.{drop}
@@ -10,6 +9,3 @@ use Rattle.error_table.proofs.row_for.Given as goal
 
 abbrev pub invariant-loop-i : goal.invariant-loop-i
 invariant-loop-i l = first_row (l.i + 1) (drop l.i Table.rows) (l.s0 ∷ l.s1 ∷ l.s2 ∷ []) ≡ first_row 1 Table.rows (l.s0 ∷ l.s1 ∷ l.s2 ∷ [])
-
-abbrev pub decreases-loop-i : goal.decreases-loop-i
-decreases-loop-i l = 20 - l.i

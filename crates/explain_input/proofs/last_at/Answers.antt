@@ -9,24 +9,25 @@ use Rattle.explain_input.proofs.last_at.Goals as goal
 pub loop-at-init : goal.loop-at-init
 loop-at-init c = (search rules, search rules, refl)
 
-pub returns-in_default : goal.returns-in_default
-returns-in_default c = record { value = last_torn _ _ (sym c.field_at.ensures ∙ c.in_default.is) ∙ c.loop-at.invariant.2; end_within = tt }
+pub returns-in_err-field : goal.returns-in_err-field
+returns-in_err-field c =
+    rw c.from_residual.ensures (record { value = last_torn _ _ (sym c.field_at.ensures ∙ c.in_err-field.was) ∙ c.loop-at.invariant.2; inside = tt })
 
-pub returns-then-tag-eq50 : goal.returns-then-tag-eq50
-returns-then-tag-eq50 c =
-    let e = sym c.field_at.ensures ∙ c.in-Field.is in
-    let w = bounds _ _ e in record { value = last_here _ _ e c.if-tag-eq50.true ∙ c.loop-at.invariant.2; end_within = (c.loop-at.invariant.0, omega (arith, w.0), w.1, w.2) }
+pub returns-then-field-eq50 : goal.returns-then-field-eq50
+returns-then-field-eq50 c =
+    let e = sym c.field_at.ensures ∙ c.in_ok-field.was in
+    let w = bounds _ _ e in record { value = last_here _ _ e c.if-field-eq50.true ∙ c.loop-at.invariant.2; inside = (c.loop-at.invariant.0, omega (arith, w.0), w.1, w.2) }
 
 pub loop-at-smaller : goal.loop-at-smaller
 loop-at-smaller c =
-    let w = bounds _ _ (sym c.field_at.ensures ∙ c.in-Field.is) in
+    let w = bounds _ _ (sym c.field_at.ensures ∙ c.in_ok-field.was) in
     omega (arith, w.0, w.1, w.2)
 
 pub loop-at-preserved : goal.loop-at-preserved
 loop-at-preserved c =
-    let e = sym c.field_at.ensures ∙ c.in-Field.is in
+    let e = sym c.field_at.ensures ∙ c.in_ok-field.was in
     let w = bounds _ _ e in
-    (omega (arith, w.0, w.1, c.loop-at.invariant.0), w.2, last_on _ _ e c.if-tag-eq50.false ∙ c.loop-at.invariant.2)
+    (omega (arith, w.0, w.1, c.loop-at.invariant.0), w.2, last_on _ _ e c.if-field-eq50.false ∙ c.loop-at.invariant.2)
 
 pub returns : goal.returns
-returns c = record { value = last_past _ _ c.loop-at-test.false ∙ c.loop-at.invariant.2; end_within = tt }
+returns c = record { value = last_past _ _ c.loop-at-test.false ∙ c.loop-at.invariant.2; inside = tt }

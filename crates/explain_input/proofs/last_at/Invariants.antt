@@ -2,11 +2,11 @@
 use Prim.Native.Nat.{◌-◌, ◌≤◌}
 use mathlib.Core.Path.{◌≡◌}
 use lib.ListN.{length}
-use Rattle.explain_input.specs.Found.{end_of}
+use Rattle.explain_input.specs.Input.{last_at}
 use Rattle.explain_input.proofs.last_at.Given as goal
 
 abbrev pub invariant-loop-at : goal.invariant-loop-at
-invariant-loop-at l = (l.from ≤ l.at) × (l.at ≤ length l.input) × (end_of l.input l.at ≡ end_of l.input l.from)
+invariant-loop-at l = (l.from ≤ l.at) × (l.at ≤ length l.input) × (last_at l.input l.at ≡ last_at l.input l.from)
 
 abbrev pub decreases-loop-at : goal.decreases-loop-at
 decreases-loop-at l = length l.input - l.at

@@ -6,4 +6,4 @@ pub returns-then-is_tic : goal.returns-then-is_tic
 returns-then-is_tic c = tic_index _ c.is_tic.ensures c.if-is_tic.true
 
 pub returns : goal.returns
-returns c = other_index _ c.is_tic.ensures c.if-is_tic.false c.command_of.ensures c.command_index.ensures
+returns c = other_index _ c.is_tic.ensures c.if-is_tic.false c.from.ensures c.command_index.ensures

@@ -12,7 +12,7 @@ put_item-end-requires c = record { at_in_bounds = search rules; list_value = que
 pub returns : goal.returns
 unfolding question_texts ascii
 returns c = record {
-  puts = refusal_put _ c.number.ensures c.wide-n.ensures.value c.put_refused-colon.ensures.puts c.put-question.ensures.puts c.put_item-end.ensures.puts
+  puts = refusal_put _ c.from.ensures c.wide-n.ensures.value c.put_refused-colon.ensures.puts c.put-question.ensures.puts c.put_item-end.ensures.puts
       c.put.ensures.puts;
   upper_bound = search rules;
 }

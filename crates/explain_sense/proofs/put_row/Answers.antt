@@ -7,4 +7,4 @@ pub returns-in_default : goal.returns-in_default
 returns-in_default c = record { puts = row_none _ _ c.row_for.ensures _ _ c.in_default.is; upper_bound = search rules }
 
 pub returns : goal.returns
-returns c = record { puts = row_put _ _ c.row_for.ensures c.in-First.is c.put_line.ensures.puts; upper_bound = search rules }
+returns c = record { puts = row_put _ _ c.row_for.ensures c.in-Some.is c.put_line.ensures.puts; upper_bound = search rules }

@@ -11,9 +11,9 @@ returns-in_default c =
 pub slice_bounds-put_told-end-2 : goal.slice_bounds-put_told-end-2
 slice_bounds-put_told-end-2 c =
     let a = c.args in
-    let n = long_report a.report.now c.in-Well.is c.read.ensures.bounded in
+    let n = long_report a.report.now c.in-Ok.is c.read.ensures.bounded in
     omega (arith, n)
 
 pub returns : goal.returns
 returns c =
-    let e = well_sense _ _ c.read.ensures.value c.in-Well.is in record { puts = rw (← e) c.put_told-2.ensures.puts; upper_bound = search rules }
+    let e = well_sense _ _ c.read.ensures.value c.in-Ok.is in record { puts = rw (← e) c.put_told-2.ensures.puts; upper_bound = search rules }

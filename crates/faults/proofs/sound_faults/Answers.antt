@@ -15,26 +15,26 @@ returns-in_default c =
 
 pub returns-then-not-sound_fault : goal.returns-then-not-sound_fault
 returns-then-not-sound_fault c =
-    let e = sym c.fault_at.ensures ∙ c.in-Found.is in
+    let e = sym c.fault_at.ensures ∙ c.in-Some.is in
     λ d h.
     sym (c.loop-here.invariant d h ∙ sound_unsound _ _ _ _ e (sym (c.sound_fault.ensures d h) ∙ c.if-not-sound_fault.true))
 
 pub returns-then-named_from : goal.returns-then-named_from
 returns-then-named_from c =
-    let e = sym c.fault_at.ensures ∙ c.in-Found.is in
+    let e = sym c.fault_at.ensures ∙ c.in-Some.is in
     let m = rw c.if-named_from.true at c.named_from.ensures in
     λ d h.
     sym (c.loop-here.invariant d h ∙ sound_again _ _ _ _ e (sym (c.sound_fault.ensures d h) ∙ c.if-not-sound_fault.false) m)
 
 pub loop-here-smaller : goal.loop-here-smaller
 loop-here-smaller c =
-    let e = sym c.fault_at.ensures ∙ c.in-Found.is in
+    let e = sym c.fault_at.ensures ∙ c.in-Some.is in
     let b = fault_bounds _ _ _ e in
     omega arith
 
 pub loop-here-preserved : goal.loop-here-preserved
 loop-here-preserved c =
-    let e = sym c.fault_at.ensures ∙ c.in-Found.is in
+    let e = sym c.fault_at.ensures ∙ c.in-Some.is in
     let m = rw c.if-named_from.false at c.named_from.ensures in
     λ d h.
     c.loop-here.invariant d h ∙ sound_on _ _ _ _ e (sym (c.sound_fault.ensures d h) ∙ c.if-not-sound_fault.false) m

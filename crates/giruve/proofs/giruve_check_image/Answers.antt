@@ -8,9 +8,9 @@ use Rattle.giruve.proofs.giruve_check_image.Goals as goal
 pub returns-in_default : goal.returns-in_default
 unfolding image_answer_by
 returns-in_default c =
-    c.number.ensures ∙ ap answer_of (by_unknown _ c.model_of.result c.model_of.ensures _ _ c.in_default.is)
+    c.from.ensures ∙ ap answer_of (by_unknown _ c.try_from.result c.try_from.ensures _ _ _ c.in_default.is)
 
 pub returns : goal.returns
 unfolding image_answer_by
 returns c =
-    c.answer.ensures ∙ ap answer_of (c.check_image.ensures ∙ by_known _ c.model_of.result c.model_of.ensures _ _ _ c.in-Model.is)
+    c.answer.ensures ∙ ap answer_of (c.check_image.ensures ∙ by_known _ c.try_from.result c.try_from.ensures _ _ _ c.in-Ok.is)

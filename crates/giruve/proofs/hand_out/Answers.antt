@@ -2,12 +2,12 @@
 use Rattle.giruve.proofs.Run.{refused_so, ran_so}
 use Rattle.giruve.proofs.hand_out.Goals as goal
 
-pub returns-in-Refused : goal.returns-in-Refused
-returns-in-Refused c = rw c.in-Refused.is (refused_so _ _ _ c.number.ensures)
+pub returns-in-Err : goal.returns-in-Err
+returns-in-Err c = rw c.in-Err.is (refused_so _ _ _ c.from.ensures)
 
 pub put-requires : goal.put-requires
-put-requires c = record { answer_len = c.requires.answer_len; ran_low = rw c.in-Ran.is at c.requires.trial_low }
+put-requires c = record { answer_len = c.requires.answer_len; ran_low = rw c.in-Ok.is at c.requires.trial_low }
 
-pub returns-in-Ran : goal.returns-in-Ran
-returns-in-Ran c =
-    rw c.in-Ran.is (ran_so _ c.in-Ran.r _ _ c.number-in-Ran.ensures c.put.ensures)
+pub returns-in-Ok : goal.returns-in-Ok
+returns-in-Ok c =
+    rw c.in-Ok.is (ran_so _ c.in-Ok.r _ _ c.number.ensures c.put.ensures)

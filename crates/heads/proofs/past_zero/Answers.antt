@@ -12,5 +12,5 @@ returns-in_default c =
 
 pub returns : goal.returns
 returns c =
-    let e = c.in-Located.is in
+    let e = c.in-Some.is in
     past_first _ c.args.d c.if-d-ne0.false _ (sym c.record_at.ensures.value ∙ e) (rw e at c.record_at.ensures.bounded)

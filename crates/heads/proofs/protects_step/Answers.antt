@@ -3,14 +3,14 @@ use mathlib.Core.Path.{sym, ◌∙◌}
 use Rattle.drive.specs.Step as Step
 use Rattle.heads.proofs.protects_step.Goals as goal
 
-pub returns-in-Unset : goal.returns-in-Unset
+pub returns-in-None : goal.returns-in-None
 unfolding Step.protects_step
-returns-in-Unset c = rw c.in-Unset.is
+returns-in-None c = rw c.in-None.is
 
 pub returns-then-not-bit : goal.returns-then-not-bit
 unfolding Step.protects_step
-returns-then-not-bit c = rw (c.in-Set.is, sym c.bit.ensures ∙ c.if-not-bit.true)
+returns-then-not-bit c = rw (c.in-Some.is, sym c.bit.ensures ∙ c.if-not-bit.true)
 
-pub returns-in-Set : goal.returns-in-Set
+pub returns-in-Some : goal.returns-in-Some
 unfolding Step.protects_step
-returns-in-Set c = rw (c.in-Set.is, sym c.bit.ensures ∙ c.if-not-bit.false) c.bit-in-Set.ensures
+returns-in-Some c = rw (c.in-Some.is, sym c.bit.ensures ∙ c.if-not-bit.false) c.bit-in-Some.ensures

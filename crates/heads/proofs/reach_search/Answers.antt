@@ -11,15 +11,15 @@ returns-then-not-d c = record { value = search_off _ _ (c.requires.off (not-true
 
 pub next_head-requires : goal.next_head-requires
 next_head-requires c =
-    let o = c.requires.on (not-false _ c.if-not-d.false) in record { standing = c.requires; track_ends = (o.0, o.1, ends_at _ o.0 c.args.d.next _ o.1.ahead (sym c.record_at.ensures.value ∙ c.in-NoRecord.is)) }
+    let o = c.requires.on (not-false _ c.if-not-d.false) in record { standing = c.requires; track_ends = (o.0, o.1, ends_at _ o.0 c.args.d.next _ o.1.ahead (sym c.record_at.ensures.value ∙ c.in-None.is)) }
 
-pub returns-in-Located : goal.returns-in-Located
-returns-in-Located c =
+pub returns-in-Some : goal.returns-in-Some
+returns-in-Some c =
     let o = c.requires.on (not-false _ c.if-not-d.false) in
-    let e = c.in-Located.is in
+    let e = c.in-Some.is in
     let x = spotted _ o.0 _ _ o.1.ahead _ o.1.near (sym c.record_at.ensures.value ∙ e) (rw e at c.record_at.ensures.bounded) in record { value = search_here _ _ o.0 o.1.there x.inside; reached_stands = c.requires }
 
-pub returns-in-NoRecord : goal.returns-in-NoRecord
-returns-in-NoRecord c =
+pub returns-in-None : goal.returns-in-None
+returns-in-None c =
     let o = c.requires.on (not-false _ c.if-not-d.false) in
-    let i = ended _ o.0 _ _ o.1.ahead (sym c.record_at.ensures.value ∙ c.in-NoRecord.is) in record { value = search_on _ _ o.0 o.1.there i _ c.next_head.ensures.value; reached_stands = c.next_head.ensures.reached_stands }
+    let i = ended _ o.0 _ _ o.1.ahead (sym c.record_at.ensures.value ∙ c.in-None.is) in record { value = search_on _ _ o.0 o.1.there i _ c.next_head.ensures.value; reached_stands = c.next_head.ensures.reached_stands }

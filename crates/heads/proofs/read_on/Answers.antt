@@ -34,14 +34,14 @@ pub next_head-r-requires : goal.next_head-r-requires
 next_head-r-requires c =
     let i = c.loop-e.invariant in
     let o = i.3.on (not-false _ c.if-not-e.false) in
-    let z = c.past_zero-start.ensures o.0 o.1 in record { standing = i.3; track_ends = (o.0, o.1, ends_at _ o.0 (past_zero c.loop-e.e.next) _ z.0 (sym c.record_at.ensures.value ∙ c.in-NoRecord.is)) }
+    let z = c.past_zero-start.ensures o.0 o.1 in record { standing = i.3; track_ends = (o.0, o.1, ends_at _ o.0 (past_zero c.loop-e.e.next) _ z.0 (sym c.record_at.ensures.value ∙ c.in-None.is)) }
 
 pub returns-in_default-r : goal.returns-in_default-r
 returns-in_default-r c =
     let i = c.loop-e.invariant in
     let o = i.3.on (not-false _ c.if-not-e.false) in
     let z = c.past_zero-start.ensures o.0 o.1 in
-    let n = ended _ o.0 _ _ z.0 (sym c.record_at.ensures.value ∙ c.in-NoRecord.is) in
+    let n = ended _ o.0 _ _ z.0 (sym c.record_at.ensures.value ∙ c.in-None.is) in
     let f = failed c.next_head-r.result (opened c.in_default-r.in_default-r-own.keys2) in record { value = f.1 ∙ read_fails _ i.0 _ o.0 o.1.there n f.0 (sym f.1 ∙ c.next_head-r.ensures.value) ∙ i.1; reached_stands = c.next_head-r.ensures.reached_stands }
 
 pub loop-e-smaller : goal.loop-e-smaller
@@ -54,7 +54,7 @@ loop-e-preserved c =
     let i = c.loop-e.invariant in
     let o = i.3.on (not-false _ c.if-not-e.false) in
     let z = c.past_zero-start.ensures o.0 o.1 in
-    let n = ended _ o.0 _ _ z.0 (sym c.record_at.ensures.value ∙ c.in-NoRecord.is) in
+    let n = ended _ o.0 _ _ z.0 (sym c.record_at.ensures.value ∙ c.in-None.is) in
     let e = c.in-Reaches.is in
     let r = sym (ap reached_of e) ∙ c.next_head-r.ensures.value in
     let step = step_made _ _ r in

@@ -1,11 +1,13 @@
 -- `image::may_follow` meets its contract by cases. Assumes nothing.
+use mathlib.Core.Path.{◌∙◌}
 use Rattle.image.specs.Image.{follows}
+use Rattle.address.proofs.Order.{less}
 use Rattle.image.proofs.may_follow.Goals as goal
 
-pub returns-in-Nothing : goal.returns-in-Nothing
+pub returns-in-None : goal.returns-in-None
 unfolding follows
-returns-in-Nothing c = rw c.in-Nothing.is
+returns-in-None c = rw c.in-None.is
 
-pub returns-in-Behind : goal.returns-in-Behind
+pub returns-in-Some : goal.returns-in-Some
 unfolding follows
-returns-in-Behind c = rw c.in-Behind.is c.before-in-Behind.ensures
+returns-in-Some c = rw c.in-Some.is (c.lt.ensures ∙ less c.in-Some.c c.args.a)

@@ -19,46 +19,46 @@ returns-in_default c =
 
 pub fits-requires : goal.fits-requires
 fits-requires c =
-    let b = record_bounds _ _ _ (sym c.record_at.ensures.value ∙ c.in-Located.is) in
+    let b = record_bounds _ _ _ (sym c.record_at.ensures.value ∙ c.in-Some.is) in
     omega (arith, b.in_order)
 
 pub returns-then-not-fits : goal.returns-then-not-fits
 returns-then-not-fits c =
     let i = c.loop-p.invariant in
-    let b = rw c.in-Located.is at c.record_at.ensures.bounded in
-    λ last. i.2 last ∙ inside_unfit last _ _ _ _ _ (sym c.record_at.ensures.value ∙ c.in-Located.is) b.number (sym c.fits.ensures ∙ c.if-not-fits.true)
+    let b = rw c.in-Some.is at c.record_at.ensures.bounded in
+    λ last. i.2 last ∙ inside_unfit last _ _ _ _ _ (sym c.record_at.ensures.value ∙ c.in-Some.is) b.number (sym c.fits.ensures ∙ c.if-not-fits.true)
 
-pub bounds-seen-r : goal.bounds-seen-r
-bounds-seen-r c =
-    let b = rw c.in-Located.is at c.record_at.ensures.bounded in
+pub bounds-seen-p : goal.bounds-seen-p
+bounds-seen-p c =
+    let b = rw c.in-Some.is at c.record_at.ensures.bounded in
     omega arith
 
-pub returns-then-seen-r-eq1 : goal.returns-then-seen-r-eq1
-returns-then-seen-r-eq1 c =
+pub returns-then-seen-p-eq1 : goal.returns-then-seen-p-eq1
+returns-then-seen-p-eq1 c =
     let i = c.loop-p.invariant in
-    let b = rw c.in-Located.is at c.record_at.ensures.bounded in
-    λ last. i.2 last ∙ inside_again last _ _ _ _ _ (sym c.record_at.ensures.value ∙ c.in-Located.is) b.number (sym c.fits.ensures ∙ c.if-not-fits.false)
-    (marked c.loop-p.seen i.0 i.1 _ b.number c.if-seen-r-eq1.true)
+    let b = rw c.in-Some.is at c.record_at.ensures.bounded in
+    λ last. i.2 last ∙ inside_again last _ _ _ _ _ (sym c.record_at.ensures.value ∙ c.in-Some.is) b.number (sym c.fits.ensures ∙ c.if-not-fits.false)
+    (marked c.loop-p.seen i.0 i.1 _ b.number c.if-seen-p-eq1.true)
 
-pub bounds-seen-r-in-loop-p : goal.bounds-seen-r-in-loop-p
-bounds-seen-r-in-loop-p c =
-    let b = rw c.in-Located.is at c.record_at.ensures.bounded in
+pub bounds-seen-p-in-loop-p : goal.bounds-seen-p-in-loop-p
+bounds-seen-p-in-loop-p c =
+    let b = rw c.in-Some.is at c.record_at.ensures.bounded in
     omega arith
 
 pub loop-p-smaller : goal.loop-p-smaller
 loop-p-smaller c =
-    let b = record_bounds _ _ _ (sym c.record_at.ensures.value ∙ c.in-Located.is) in
+    let b = record_bounds _ _ _ (sym c.record_at.ensures.value ∙ c.in-Some.is) in
     omega (arith, b.behind, b.in_order, b.inside)
 
 pub loop-p-preserved : goal.loop-p-preserved
 loop-p-preserved c =
     let i = c.loop-p.invariant in
-    let e = sym c.record_at.ensures.value ∙ c.in-Located.is in
+    let e = sym c.record_at.ensures.value ∙ c.in-Some.is in
     let l = record_bounds _ _ _ e in
-    let b = rw c.in-Located.is at c.record_at.ensures.bounded in (
-      c.in-Located.p.r ∷ i.0,
-      marks_more c.loop-p.seen i.0 c.in-Located.p.r (omega arith) i.1,
-      λ last. i.2 last ∙ inside_on last _ _ _ _ _ e b.number (sym c.fits.ensures ∙ c.if-not-fits.false) (unmarked c.loop-p.seen i.0 i.1 _ b.number c.if-seen-r-eq1.false),
+    let b = rw c.in-Some.is at c.record_at.ensures.bounded in (
+      c.in-Some.p.r ∷ i.0,
+      marks_more c.loop-p.seen i.0 c.in-Some.p.r (omega arith) i.1,
+      λ last. i.2 last ∙ inside_on last _ _ _ _ _ e b.number (sym c.fits.ensures ∙ c.if-not-fits.false) (unmarked c.loop-p.seen i.0 i.1 _ b.number c.if-seen-p-eq1.false),
       simp length-set i.3,
       omega (arith, l.behind, l.in_order),
       l.inside,

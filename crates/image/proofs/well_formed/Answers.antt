@@ -17,12 +17,12 @@ returns-in_default c =
 
 pub loop-here-smaller : goal.loop-here-smaller
 loop-here-smaller c =
-    let t = rw c.in-Track.is at c.track_end.ensures in
+    let t = rw c.in-Some.is at c.track_end.ensures in
     omega arith
 
 pub loop-here-preserved : goal.loop-here-preserved
 loop-here-preserved c =
-    let t = rw c.in-Track.is at c.track_end.ensures in
+    let t = rw c.in-Some.is at c.track_end.ensures in
     (c.loop-here.invariant.0 ∙ t.2, t.1)
 
 pub returns : goal.returns

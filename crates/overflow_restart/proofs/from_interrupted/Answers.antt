@@ -22,25 +22,25 @@ next-behind-requires c = inside_next c.args.chain.now [] c.args.e.at c.requires.
 pub resume-requires-in-Chain : goal.resume-requires-in-Chain
 resume-requires-in-Chain c =
     let cut = c.requires.interrupted in
-    let there = rw (c.in-Got.is, c.in-Chain.is) at c.resolve.ensures.got_inside in record { in_bytes = cut.in_bytes; c_value = cut.usable; left_le_count = cut.left; tic_low = omega (arith, there.0, c.requires.chain_len_bound) }
+    let there = rw (c.in-Ok.is, c.in-Chain.is) at c.resolve.ensures.got_inside in record { in_bytes = cut.in_bytes; c_value = cut.usable; left_le_count = cut.left; tic_low = omega (arith, there.0, c.requires.chain_len_bound) }
 
-pub returns-in-Broken : goal.returns-in-Broken
+pub returns-in-Err : goal.returns-in-Err
 unfolding only_chain
-returns-in-Broken c =
+returns-in-Err c =
     let a = c.args in
     let on = sym c.chains.ensures ∙ c.if-not-chains.false in
-    let q = rw (c.in-Broken.is, c.next-behind.ensures) at c.resolve.ensures.resolves in record { goes_from = next_broken a.mask a.a a.kind a.chain.now a.e on _ (q (only_chain a.chain.now) refl refl); goes_low = tt }
+    let q = rw (c.in-Err.is, c.next-behind.ensures) at c.resolve.ensures.resolves in record { goes_from = next_broken a.mask a.a a.kind a.chain.now a.e on _ (q (only_chain a.chain.now) refl refl); goes_low = tt }
 
 pub returns-in-Restart : goal.returns-in-Restart
 unfolding only_chain
 returns-in-Restart c =
     let a = c.args in
     let on = sym c.chains.ensures ∙ c.if-not-chains.false in
-    let q = rw (c.in-Got.is, c.in-Restart.is, c.next-behind.ensures) at c.resolve.ensures.resolves in record { goes_from = next_restart a.mask a.a a.kind a.chain.now a.e on _ _ (q (only_chain a.chain.now) refl refl); goes_low = tt }
+    let q = rw (c.in-Ok.is, c.in-Restart.is, c.next-behind.ensures) at c.resolve.ensures.resolves in record { goes_from = next_restart a.mask a.a a.kind a.chain.now a.e on _ _ (q (only_chain a.chain.now) refl refl); goes_low = tt }
 
 pub returns-in-Chain : goal.returns-in-Chain
 unfolding only_chain
 returns-in-Chain c =
     let a = c.args in
     let on = sym c.chains.ensures ∙ c.if-not-chains.false in
-    let q = rw (c.in-Got.is, c.in-Chain.is, c.next-behind.ensures) at c.resolve.ensures.resolves in record { goes_from = next_chain a.mask a.a a.kind a.chain.now a.e on _ _ _ (q (only_chain a.chain.now) refl refl) c.resume-in-Chain.ensures.overflow_restarts; goes_low = c.resume-in-Chain.ensures.goes_low }
+    let q = rw (c.in-Ok.is, c.in-Chain.is, c.next-behind.ensures) at c.resolve.ensures.resolves in record { goes_from = next_chain a.mask a.a a.kind a.chain.now a.e on _ _ _ (q (only_chain a.chain.now) refl refl) c.resume-in-Chain.ensures.overflow_restarts; goes_low = c.resume-in-Chain.ensures.goes_low }

@@ -14,15 +14,15 @@ returns-then-takes_empty c =
 
 pub read_faulted-requires : goal.read_faulted-requires
 read_faulted-requires c =
-    let found = rw c.in-Found.is at c.fault_taken.ensures in record { ready = c.requires.ready; bytes_len_bound = c.requires.bytes_len_bound; displacement_in_bounds = named_found _ c.args.k c.args.x _ _ found.0 c.requires.faults_inside found.1; place_low = c.requires.place_low }
+    let found = rw c.in-Some.is at c.fault_taken.ensures in record { ready = c.requires.ready; bytes_len_bound = c.requires.bytes_len_bound; displacement_in_bounds = named_found _ c.args.k c.args.x _ _ found.0 c.requires.faults_inside found.1; place_low = c.requires.place_low }
 
-pub returns-in-NoFault : goal.returns-in-NoFault
-returns-in-NoFault c =
-    let none = rw c.in-NoFault.is at c.fault_taken.ensures in record { reads_bytes = faultless_read _ _ _ _ _ c.args.k c.args.x c.args.bytes.now _ c.args.storage.now c.plain.result _ (sym c.takes_empty.ensures ∙ c.if-takes_empty.false) c.requires.body_le_next none c.plain.ensures.ends; kept_with = c.plain.ensures.kept_with }
+pub returns-in-None : goal.returns-in-None
+returns-in-None c =
+    let none = rw c.in-None.is at c.fault_taken.ensures in record { reads_bytes = faultless_read _ _ _ _ _ c.args.k c.args.x c.args.bytes.now _ c.args.storage.now c.plain.result _ (sym c.takes_empty.ensures ∙ c.if-takes_empty.false) c.requires.body_le_next none c.plain.ensures.ends; kept_with = c.plain.ensures.kept_with }
 
-pub returns-in-Found : goal.returns-in-Found
-returns-in-Found c =
+pub returns-in-Some : goal.returns-in-Some
+returns-in-Some c =
     let k = c.args.k in
     let x = c.args.x in
-    let found = rw c.in-Found.is at c.fault_taken.ensures in
+    let found = rw c.in-Some.is at c.fault_taken.ensures in
     let some = not_empty k x found.0 (sym c.takes_empty.ensures ∙ c.if-takes_empty.false) in record { reads_bytes = faulted_read _ _ _ _ _ k x c.args.bytes.now _ c.args.storage.now c.read_faulted.result _ found.0 some c.requires.body_le_next _ found.1 c.read_faulted.ensures.reads_faulted; kept_with = λ image s. c.read_faulted.ensures.kept_always image }

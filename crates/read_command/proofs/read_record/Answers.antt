@@ -8,13 +8,13 @@ refuse-requires c = record { low = inside_low _ _ c.requires.ready.short _ c.req
 
 pub read_at-requires : goal.read_at-requires
 read_at-requires c =
-    let stands = rw c.in-Takes.is at c.take.ensures.taken_stands in record { ready = c.requires.ready; begun = c.requires.begun; reads_record = c.requires.reads_record; lies = record { within = stands.1; found = stands.2; belongs = stands.3 } }
+    let stands = rw c.in-Some.is at c.take.ensures.taken_stands in record { ready = c.requires.ready; begun = c.requires.begun; reads_record = c.requires.reads_record; lies = record { within = stands.1; found = stands.2; belongs = stands.3 } }
 
-pub returns-in-Nothing : goal.returns-in-Nothing
-returns-in-Nothing c =
+pub returns-in-None : goal.returns-in-None
+returns-in-None c =
     let start = c.args in
-    let none = rw c.in-Nothing.is at c.take.ensures.takes_for in record { carries = read_none _ _ _ _ _ _ start.k start.d _ c.refuse.result none c.refuse.ensures.answers; kept = c.refuse.ensures.kept_always _ }
+    let none = rw c.in-None.is at c.take.ensures.takes_for in record { carries = read_none _ _ _ _ _ _ start.k start.d _ c.refuse.result none c.refuse.ensures.answers; kept = c.refuse.ensures.kept_always _ }
 
-pub returns-in-Takes : goal.returns-in-Takes
-returns-in-Takes c =
-    let start = c.args in record { carries = read_taken _ _ _ _ _ _ start.k start.d start.storage.now c.read_at.result _ _ c.in-Takes.e (rw c.in-Takes.is at c.take.ensures.takes_for) c.read_at.ensures.carries; kept = c.read_at.ensures.kept_with _ (rw c.in-Takes.is at c.take.ensures.taken_stands).0 }
+pub returns-in-Some : goal.returns-in-Some
+returns-in-Some c =
+    let start = c.args in record { carries = read_taken _ _ _ _ _ _ start.k start.d start.storage.now c.read_at.result _ _ c.in-Some.e (rw c.in-Some.is at c.take.ensures.takes_for) c.read_at.ensures.carries; kept = c.read_at.ensures.kept_with _ (rw c.in-Some.is at c.take.ensures.taken_stands).0 }

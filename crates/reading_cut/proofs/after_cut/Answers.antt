@@ -4,7 +4,7 @@ use Rattle.reading_cut.proofs.after_cut.Goals as goal
 
 pub returns-in-Restart : goal.returns-in-Restart
 returns-in-Restart c =
-    let a = c.args in record { after_cut = again a.chain.now a.x a.k a.storage.now a.program.now a.restart_arguments.now a.entry.now _ _ _ _ _ _ (rw c.in-Restart.is at c.recover_cut.ensures) c.action_number.ensures c.note.ensures; went_low = tt }
+    let a = c.args in record { after_cut = again a.chain.now a.x a.k a.storage.now a.program.now a.restart_arguments.now a.entry.now _ _ _ _ _ _ (rw c.in-Restart.is at c.recover_cut.ensures) c.from.ensures c.note.ensures; went_low = tt }
 
 pub returns-in-Finished : goal.returns-in-Finished
 returns-in-Finished c =
@@ -17,7 +17,7 @@ returns-in-CorrectedOnly c =
 
 pub returns-in-Refused : goal.returns-in-Refused
 returns-in-Refused c =
-    let a = c.args in record { after_cut = refused a.chain.now a.x a.k a.storage.now a.program.now a.restart_arguments.now a.entry.now _ _ _ a.entry.now _ _ (rw c.in-Refused.is at c.recover_cut.ensures) c.number.ensures; went_low = tt }
+    let a = c.args in record { after_cut = refused a.chain.now a.x a.k a.storage.now a.program.now a.restart_arguments.now a.entry.now _ _ _ a.entry.now _ _ (rw c.in-Refused.is at c.recover_cut.ensures) c.from-in-Refused.ensures; went_low = tt }
 
 pub returns-in-ActionOne : goal.returns-in-ActionOne
 returns-in-ActionOne c =

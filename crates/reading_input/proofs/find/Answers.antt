@@ -7,27 +7,29 @@ use Rattle.reading_input.proofs.find.Goals as goal
 pub returns-then-input-gt60000 : goal.returns-then-input-gt60000
 returns-then-input-gt60000 c = record { value = too_long _ c.if-input-gt60000.true; inside = tt }
 
-pub returns-in_default : goal.returns-in_default
-returns-in_default c = record { value = no_chain _ c.if-input-gt60000.false (sym c.wanted_at.ensures ∙ c.in_default.is); inside = tt }
+pub returns-in_err-chain : goal.returns-in_err-chain
+returns-in_err-chain c = rw c.from_residual.ensures (record { value = no_chain _ c.if-input-gt60000.false (sym c.wanted_at.ensures ∙ c.in_err-chain.was); inside = tt })
 
-pub returns-in_default-wanted_at : goal.returns-in_default-wanted_at
-returns-in_default-wanted_at c =
-    let e = sym c.wanted_at.ensures ∙ c.in-Found.is in record { value = no_arguments _ c.if-input-gt60000.false e (sym c.wanted_at-2.ensures ∙ c.in_default-wanted_at.is); inside = tt }
+pub returns-in_err-arguments : goal.returns-in_err-arguments
+returns-in_err-arguments c =
+    let e = sym c.wanted_at.ensures ∙ c.in_ok-chain.was in
+    rw c.from_residual-in_err-arguments.ensures (record { value = no_arguments _ c.if-input-gt60000.false e (sym c.wanted_at-2.ensures ∙ c.in_err-arguments.was); inside = tt })
 
-pub returns-in_default-wanted_at-2 : goal.returns-in_default-wanted_at-2
-returns-in_default-wanted_at-2 c =
-    let e₁ = sym c.wanted_at-2.ensures ∙ c.in-Found-wanted_at.is in
-    let e = sym c.wanted_at.ensures ∙ c.in-Found.is in record { value = no_extent _ c.if-input-gt60000.false e e₁ (sym c.wanted_at-3.ensures ∙ c.in_default-wanted_at-2.is); inside = tt }
+pub returns-in_err-extent : goal.returns-in_err-extent
+returns-in_err-extent c =
+    let e₁ = sym c.wanted_at-2.ensures ∙ c.in_ok-arguments.was in
+    let e = sym c.wanted_at.ensures ∙ c.in_ok-chain.was in
+    rw c.from_residual-in_err-extent.ensures (record { value = no_extent _ c.if-input-gt60000.false e e₁ (sym c.wanted_at-3.ensures ∙ c.in_err-extent.was); inside = tt })
 
 pub image_at-requires : goal.image_at-requires
 image_at-requires c =
-    (wanted_bounds _ _ _ (sym c.wanted_at-3.ensures ∙ c.in-Found-wanted_at-2.is)).2
+    (wanted_bounds _ _ _ (sym c.wanted_at-3.ensures ∙ c.in_ok-extent.was)).2
 
 pub returns : goal.returns
 returns c =
-    let e₂ = sym c.wanted_at-3.ensures ∙ c.in-Found-wanted_at-2.is in
-    let e₁ = sym c.wanted_at-2.ensures ∙ c.in-Found-wanted_at.is in
-    let e = sym c.wanted_at.ensures ∙ c.in-Found.is in
+    let e₂ = sym c.wanted_at-3.ensures ∙ c.in_ok-extent.was in
+    let e₁ = sym c.wanted_at-2.ensures ∙ c.in_ok-arguments.was in
+    let e = sym c.wanted_at.ensures ∙ c.in_ok-chain.was in
     let b = wanted_bounds _ _ _ e in
     let b₁ = wanted_bounds _ _ _ e₁ in
     let b₂ = wanted_bounds _ _ _ e₂ in record {

@@ -17,12 +17,12 @@ returns-in_default c = record { value = sym (image_torn _ _ c.loop-here-test.tru
 
 pub loop-here-smaller : goal.loop-here-smaller
 loop-here-smaller c =
-    let w = bounds _ _ (sym c.field_at.ensures ∙ c.in-Field.is) in
+    let w = bounds _ _ (sym c.field_at.ensures ∙ c.in-Some.is) in
     omega (arith, w.0, w.1, w.2)
 
 pub loop-here-preserved : goal.loop-here-preserved
 loop-here-preserved c =
-    let e = sym c.field_at.ensures ∙ c.in-Field.is in
+    let e = sym c.field_at.ensures ∙ c.in-Some.is in
     let w = bounds _ _ e in (
       sym (image_on _ _ c.loop-here-test.true c.if-input-here-ne32.false e) ∙ c.loop-here.invariant.0,
       omega (arith, w.0, w.1),

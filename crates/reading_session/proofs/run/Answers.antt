@@ -13,8 +13,8 @@ returns-in_default c =
     let fits : room ≤ length c.args.out.now = search rules in record { text = bad_shown _ _ c.find.ensures.value c.in_default.is c.put_refusal.ensures.puts; length = within c.put_refusal.ensures.puts (omega (arith, c.put_refusal.ensures.value)); storage = bad_stored _ _ c.find.ensures.value c.in_default.is }
 
 pub read_parts-requires : goal.read_parts-requires
-read_parts-requires c = record { ordered = ordered c.in-At.is c.find.ensures.inside; room_in_bounds = search rules }
+read_parts-requires c = record { ordered = ordered c.in-Some.is c.find.ensures.inside; room_in_bounds = search rules }
 
 pub returns : goal.returns
 returns c =
-    let fits : room ≤ length c.args.out.now = search rules in record { text = whole_shown _ _ c.find.ensures.value c.in-At.is c.read_parts.ensures.puts; length = within c.read_parts.ensures.puts (omega (arith, c.read_parts.ensures.upper_bound)); storage = whole_stored _ _ c.find.ensures.value c.in-At.is c.read_parts.ensures.storage_after }
+    let fits : room ≤ length c.args.out.now = search rules in record { text = whole_shown _ _ c.find.ensures.value c.in-Some.is c.read_parts.ensures.puts; length = within c.read_parts.ensures.puts (omega (arith, c.read_parts.ensures.upper_bound)); storage = whole_stored _ _ c.find.ensures.value c.in-Some.is c.read_parts.ensures.storage_after }

@@ -8,6 +8,6 @@ pub returns-then-tries-limit : goal.returns-then-tries-limit
 unfolding tried_of pick
 returns-then-tries-limit c = rw (lt-ltb _ _ c.if-tries-limit.true)
 
-pub returns : goal.returns
+pub returns-else-tries-limit : goal.returns-else-tries-limit
 unfolding tried_of pick
-returns c = rw (le-ltb _ _ c.if-tries-limit.false)
+returns-else-tries-limit c = rw (le-ltb _ _ c.if-tries-limit.false)

@@ -2,10 +2,10 @@
 use Rattle.recovery.specs.Recovery.{fetch_mode}
 use Rattle.recovered.proofs.fetch_mode.Goals as goal
 
-pub returns-in-Unset : goal.returns-in-Unset
+pub returns-in-None : goal.returns-in-None
 unfolding fetch_mode
-returns-in-Unset c = rw c.in-Unset.is
+returns-in-None c = rw c.in-None.is
 
-pub returns-in-Set : goal.returns-in-Set
+pub returns-in-Some : goal.returns-in-Some
 unfolding fetch_mode
-returns-in-Set c = rw c.in-Set.is c.bit.ensures
+returns-in-Some c = rw c.in-Some.is c.bit.ensures

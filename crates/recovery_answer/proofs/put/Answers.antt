@@ -5,7 +5,7 @@ use Rattle.recovery_answer.proofs.put.Goals as goal
 
 pub returns-in-Refused : goal.returns-in-Refused
 unfolding recovery_answer_after
-returns-in-Refused c = record { value = rw c.in-Refused.is (c.number.ensures); answer_after = rw c.in-Refused.is (refl) }
+returns-in-Refused c = record { value = rw c.in-Refused.is (c.from.ensures); answer_after = rw c.in-Refused.is (refl) }
 
 pub returns-in-ActionOne : goal.returns-in-ActionOne
 unfolding recovery_answer_after
@@ -32,4 +32,4 @@ returns-in-Finished c = record { value = rw c.in-Finished.is (c.put_with-in-Fini
 
 pub returns-in-Restart : goal.returns-in-Restart
 unfolding recovery_answer_after
-returns-in-Restart c = record { value = rw c.in-Restart.is (c.put_with-in-Restart.ensures.value); answer_after = rw c.in-Restart.is (c.put_with-in-Restart.ensures.answer_after ∙ ap₂ (bytes_with 6) c.action_number.ensures c.no_csw-in-Restart.ensures.value) }
+returns-in-Restart c = record { value = rw c.in-Restart.is (c.put_with-in-Restart.ensures.value); answer_after = rw c.in-Restart.is (c.put_with-in-Restart.ensures.answer_after ∙ ap₂ (bytes_with 6) c.from-in-Restart.ensures c.no_csw-in-Restart.ensures.value) }

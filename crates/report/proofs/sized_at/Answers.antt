@@ -4,17 +4,14 @@ use Rattle.fields.proofs.WantedAt.{wanted_bounds}
 use Rattle.report.proofs.Places.{not_there, other_length, stands}
 use Rattle.report.proofs.sized_at.Goals as goal
 
-pub returns-in_default : goal.returns-in_default
-returns-in_default c = not_there _ _ _ _ (sym c.wanted_at.ensures ∙ c.in_default.is)
+pub returns-in_err-f : goal.returns-in_err-f
+returns-in_err-f c = c.from_residual.ensures ∙ not_there _ _ _ _ (sym c.wanted_at.ensures ∙ c.in_err-f.was)
 
-pub overflow_sub-next : goal.overflow_sub-next
-overflow_sub-next c =
-    (wanted_bounds _ _ _ (sym c.wanted_at.ensures ∙ c.in-Found.is)).1
+pub overflow_sub-f : goal.overflow_sub-f
+overflow_sub-f c = (wanted_bounds _ _ _ (sym c.wanted_at.ensures ∙ c.in_ok-f.was)).1
 
-pub returns-then-next-start : goal.returns-then-next-start
-returns-then-next-start c =
-    other_length _ _ _ _ (sym c.wanted_at.ensures ∙ c.in-Found.is) c.if-next-start.true
+pub returns-then-f-n : goal.returns-then-f-n
+returns-then-f-n c = other_length _ _ _ _ (sym c.wanted_at.ensures ∙ c.in_ok-f.was) c.if-f-n.true
 
 pub returns : goal.returns
-returns c =
-    stands _ _ _ _ (sym c.wanted_at.ensures ∙ c.in-Found.is) c.if-next-start.false
+returns c = stands _ _ _ _ (sym c.wanted_at.ensures ∙ c.in_ok-f.was) c.if-f-n.false

@@ -3,12 +3,12 @@ use Rattle.base.specs.Choice.{opt}
 use Rattle.recovery.specs.Recovery.{user_track}
 use Rattle.report.proofs.user_of.Goals as goal
 
-pub user_track-requires : goal.user_track-requires
-user_track-requires c = rw c.in-At.is at c.requires
-
-pub returns-in-At : goal.returns-in-At
-returns-in-At c = record { user_of = rw c.in-At.is c.user_track.ensures.user_at; user_low = c.user_track.ensures.user_low }
-
-pub returns-in-Absent : goal.returns-in-Absent
+pub returns-in_err-at-clause-user_of : goal.returns-in_err-at-clause-user_of
 unfolding user_track opt
-returns-in-Absent c = record { user_of = rw c.in-Absent.is; user_low = tt }
+returns-in_err-at-clause-user_of c = rw (c.from_residual.ensures, c.in_err-at.was)
+
+pub user_track-requires : goal.user_track-requires
+user_track-requires c = rw c.in_ok-at.was at c.requires
+
+pub returns : goal.returns
+returns c = record { user_of = rw c.in_ok-at.was c.user_track.ensures.user_at; user_low = c.user_track.ensures.user_low }

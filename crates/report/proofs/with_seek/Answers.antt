@@ -9,7 +9,7 @@ returns-in_default c = record { reads = c.with_tries.ensures.reads ∙ seek_miss
 
 pub with_tries-requires-2 : goal.with_tries-requires-2
 with_tries-requires-2 c =
-    bounds_sought c.requires (found_tells _ _ 0x14 6 (sym c.sized_at.ensures ∙ c.in-Found.is))
+    bounds_sought c.requires (found_tells _ _ 0x14 6 (sym c.sized_at.ensures ∙ c.in-Some.is))
 
 pub returns : goal.returns
-returns c = record { reads = c.with_tries-2.ensures.reads ∙ seek_here _ _ _ (found_tells _ _ 0x14 6 (sym c.sized_at.ensures ∙ c.in-Found.is)); bounded = c.with_tries-2.ensures.bounded }
+returns c = record { reads = c.with_tries-2.ensures.reads ∙ seek_here _ _ _ (found_tells _ _ 0x14 6 (sym c.sized_at.ensures ∙ c.in-Some.is)); bounded = c.with_tries-2.ensures.bounded }

@@ -4,5 +4,5 @@ use Rattle.restart_areas.proofs.begin_arguments.Goals as goal
 
 pub returns : goal.returns
 returns c =
-    arguments_begun _ _ _ c.args.restart_arguments.now c.requires.restart_arguments_len c.mask_byte.ensures c.clear.ensures
+    arguments_begun _ _ _ c.args.restart_arguments.now c.requires.restart_arguments_len c.mask_byte.ensures (c.fill.ensures.after (λ y e. e))
     c.put_address.ensures c.place.ensures

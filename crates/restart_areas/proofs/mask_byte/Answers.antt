@@ -2,10 +2,10 @@
 use Rattle.restart.specs.Restart.{mask_byte}
 use Rattle.restart_areas.proofs.mask_byte.Goals as goal
 
-pub returns-in-Unset : goal.returns-in-Unset
+pub returns-in-None : goal.returns-in-None
 unfolding mask_byte
-returns-in-Unset c = rw c.in-Unset.is
+returns-in-None c = rw c.in-None.is
 
-pub returns-in-Set : goal.returns-in-Set
+pub returns-in-Some : goal.returns-in-Some
 unfolding mask_byte
-returns-in-Set c = rw c.in-Set.is
+returns-in-Some c = rw c.in-Some.is

@@ -3,10 +3,10 @@ use Rattle.base.specs.Bytes.{two}
 use Rattle.run_answer.specs.RunAnswer.{mask_bytes}
 use Rattle.run_answer.proofs.put_last.Goals as goal
 
-pub returns-in-Unset : goal.returns-in-Unset
+pub returns-in-None : goal.returns-in-None
 unfolding mask_bytes two
-returns-in-Unset c = rw c.in-Unset.is c.put.ensures
+returns-in-None c = rw c.in-None.is c.put.ensures
 
-pub returns-in-Set : goal.returns-in-Set
+pub returns-in-Some : goal.returns-in-Some
 unfolding mask_bytes two
-returns-in-Set c = rw c.in-Set.is c.put-in-Set.ensures
+returns-in-Some c = rw c.in-Some.is c.put-in-Some.ensures

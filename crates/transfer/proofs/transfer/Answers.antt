@@ -1,6 +1,7 @@
 -- `transfer::transfer` meets its contract. Invariant: what is left of the read at the CCW that it has come to leaves what the whole read leaves.
 -- Measure: the bytes left; each CCW takes at least one. Assumes nothing.
 use mathlib.Core.Path.{refl, sym, ◌∙◌}
+use Rattle.base.proofs.Choice.{err_is}
 use Rattle.transfer.specs.Transfer.{transferred}
 use Rattle.channel.proofs.Readable.{positive}
 use Rattle.location.proofs.NextFits.{inside_next}
@@ -38,19 +39,21 @@ returns-then-not-chains_data c =
 pub next-requires : goal.next-requires
 next-requires c = inside_next _ _ _ c.loop-storage.invariant.3 (omega arith) (omega arith)
 
-pub returns-in-Broken : goal.returns-in-Broken
+pub returns-in_err-x : goal.returns-in_err-x
 unfolding transferred rest
-returns-in-Broken c =
+returns-in_err-x c =
     let i = c.loop-storage.invariant in
     let s = c.loop-storage.storage in
     let m = c.args.bytes.now in
     let k = c.if-n-k.false in
     let f = sym c.chains_data.ensures ∙ c.if-not-chains_data.false in
-    let q = rw (c.in-Broken.is, c.next.ensures) at c.resolve.ensures.resolves in record { transfers = λ p u v. broken_at p c.loop-storage.here c.loop-storage.word m c.loop-storage.from s _ i.4 k c.stretch-in-loop-storage.ensures f _ (q p u v) ∙ i.5 p u v; count_low = tt }
+    let q = rw (c.in_err-x.was, c.next.ensures) at c.resolve.ensures.resolves in
+    rw (err_is _ c.from_residual.ensures.1)
+    (record { transfers = λ p u v. broken_at p c.loop-storage.here c.loop-storage.word m c.loop-storage.from s _ i.4 k c.stretch-in-loop-storage.ensures f _ (q p u v) ∙ i.5 p u v; count_low = tt })
 
 pub readable-requires : goal.readable-requires
 readable-requires c =
-    (rw c.in-Got.is at c.resolve.ensures.got_inside).1
+    (rw c.in_ok-x.was at c.resolve.ensures.got_inside).1
 
 pub returns-then-not-readable : goal.returns-then-not-readable
 unfolding transferred rest
@@ -60,7 +63,7 @@ returns-then-not-readable c =
     let m = c.args.bytes.now in
     let k = c.if-n-k.false in
     let f = sym c.chains_data.ensures ∙ c.if-not-chains_data.false in
-    let q = rw (c.in-Got.is, c.next.ensures) at c.resolve.ensures.resolves in record { transfers = λ p u v. refused_at p c.loop-storage.here c.loop-storage.word m c.loop-storage.from s _ i.4 k c.stretch-in-loop-storage.ensures f _ _ (q p u v) (sym c.readable.ensures ∙ c.if-not-readable.true) ∙ i.5 p u v; count_low = tt }
+    let q = rw (c.in_ok-x.was, c.next.ensures) at c.resolve.ensures.resolves in record { transfers = λ p u v. refused_at p c.loop-storage.here c.loop-storage.word m c.loop-storage.from s _ i.4 k c.stretch-in-loop-storage.ensures f _ _ (q p u v) (sym c.readable.ensures ∙ c.if-not-readable.true) ∙ i.5 p u v; count_low = tt }
 
 pub loop-storage-smaller : goal.loop-storage-smaller
 loop-storage-smaller c =
@@ -78,8 +81,8 @@ loop-storage-preserved c =
     let m = c.args.bytes.now in
     let k = c.if-n-k.false in
     let f = sym c.chains_data.ensures ∙ c.if-not-chains_data.false in
-    let q = rw (c.in-Got.is, c.next.ensures) at c.resolve.ensures.resolves in
-    let g = rw c.in-Got.is at c.resolve.ensures.got_inside in
+    let q = rw (c.in_ok-x.was, c.next.ensures) at c.resolve.ensures.resolves in
+    let g = rw c.in_ok-x.was at c.resolve.ensures.got_inside in
     let r = sym c.readable.ensures ∙ c.if-not-readable.false in (
       same_size c.loop-storage.word m c.loop-storage.from s _ i.4 k c.stretch-in-loop-storage.ensures ∙ i.0,
       omega arith,

@@ -1,12 +1,13 @@
--- `address::Extent::holds` meets its contract: each answer rewrites by the tests that led there. Assumes nothing.
-use Rattle.address.specs.Within.{within}
+-- `address::Extent::holds` meets its contract: the derived order is the one defined. Assumes nothing.
 use mathlib.Core.Path.{sym, ◌∙◌}
+use Rattle.address.specs.Within.{within}
+use Rattle.address.proofs.Order.{less}
 use Rattle.address.proofs.Extent.holds.Goals as goal
 
-pub returns-then-before : goal.returns-then-before
+pub returns-then-lt : goal.returns-then-lt
 unfolding within
-returns-then-before c = rw (sym c.before-2.ensures ∙ c.if-before.true)
+returns-then-lt c = let a = c.args in rw (sym (less a.a a.self.first) ∙ sym c.lt.ensures ∙ c.if-lt.true)
 
 pub returns : goal.returns
 unfolding within
-returns c = rw (sym c.before-2.ensures ∙ c.if-before.false, c.before-3.ensures)
+returns c = let a = c.args in rw (sym (less a.a a.self.first) ∙ sym c.lt.ensures ∙ c.if-lt.false, c.lt-2.ensures, less a.self.last a.a)

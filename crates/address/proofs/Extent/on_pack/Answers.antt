@@ -1,6 +1,7 @@
 -- `address::Extent::on_pack` meets its contract: each answer rewrites by the tests that led there. Assumes nothing.
 use Rattle.address.specs.Within.{sound_extent}
 use mathlib.Core.Path.{sym, ◌∙◌}
+use Rattle.address.proofs.Order.{less}
 use Rattle.address.proofs.Extent.on_pack.Goals as goal
 
 pub returns-then-not-on_pack : goal.returns-then-not-on_pack
@@ -21,5 +22,6 @@ returns c =
     rw (
       sym c.on_pack.ensures ∙ c.if-not-on_pack.false,
       sym c.on_pack-2.ensures ∙ c.if-not-on_pack-2.false,
-      c.before-2.ensures,
+      c.lt.ensures,
+      less c.args.self.last c.args.self.first,
     )

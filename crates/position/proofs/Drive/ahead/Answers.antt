@@ -10,5 +10,5 @@ returns-in_default c =
 
 pub returns : goal.returns
 returns c =
-    let h = rw c.in-Located.is at c.here_unless_zero.ensures in
+    let h = rw c.in-Some.is at c.here_unless_zero.ensures in
     ahead_next _ _ _ h.0 h.1 h.2

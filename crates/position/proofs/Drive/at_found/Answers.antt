@@ -4,10 +4,10 @@ use Rattle.drive.specs.Drive as Abstract
 use Rattle.position.proofs.Index.{index_on, index_off}
 use Rattle.position.proofs.Drive.at_found.Goals as goal
 
-pub returns-in-Records : goal.returns-in-Records
+pub returns-in-Some : goal.returns-in-Some
 unfolding Abstract.at_index
-returns-in-Records c = record { value = refl; standing = index_on _ _ _ c.requires.sound c.requires.cylinder_bound _ (rw c.in-Records.is at c.requires.track_found) }
+returns-in-Some c = record { value = refl; standing = index_on _ _ _ c.requires.sound c.requires.cylinder_bound _ (rw c.in-Some.is at c.requires.track_found) }
 
-pub returns-in-NoTrack : goal.returns-in-NoTrack
+pub returns-in-None : goal.returns-in-None
 unfolding Abstract.at_index
-returns-in-NoTrack c = record { value = refl; standing = index_off _ _ _ c.requires.sound c.requires.cylinder_bound (rw c.in-NoTrack.is at c.requires.track_found) }
+returns-in-None c = record { value = refl; standing = index_off _ _ _ c.requires.sound c.requires.cylinder_bound (rw c.in-None.is at c.requires.track_found) }

@@ -9,10 +9,10 @@ returns-then-not-self c =
     search_off _ c.args.self (c.requires.off (not-true _ c.if-not-self.true))
 
 pub round-requires : goal.round-requires
-round-requires c = record { standing = c.requires; found_value = not-false _ c.if-not-self.false; here_value = sym c.record_at.ensures.value ∙ c.in-NoRecord.is }
+round-requires c = record { standing = c.requires; found_value = not-false _ c.if-not-self.false; here_value = sym c.record_at.ensures.value ∙ c.in_default.is }
 
-pub returns-in-Located : goal.returns-in-Located
-returns-in-Located c =
+pub returns : goal.returns
+returns c =
     let o = c.requires.on (not-false _ c.if-not-self.false) in
-    let e = c.in-Located.is in
+    let e = c.in-Some.is in
     search_here _ _ o.0 o.1 _ c.requires.few (sym c.record_at.ensures.value ∙ e) (rw e at c.record_at.ensures.bounded)

@@ -1,8 +1,8 @@
--- `drive::command_of` meets its contract: each listed code computes, the others are a law. Assumes nothing.
+-- `drive::Command::from` meets its contract: each listed code computes, the others are a law. Assumes nothing.
 use Rattle.base.specs.Choice.{pick}
 use Rattle.drive.specs.Command.{codes, look_up, command_of}
 use Rattle.drive.proofs.Arguments.{unlisted}
-use Rattle.drive.proofs.command_of.Goals as goal
+use Rattle.drive.proofs.CommandFromU8.from.Goals as goal
 
 pub returns-in-3 : goal.returns-in-3
 unfolding command_of look_up codes pick
