@@ -126,10 +126,8 @@ pub fn put_ccws(
     ensures upper_bound { result ≤ at + n * 682 }
 {
     let mut next = at;
-    let mut i = 0;
-    while i < n {
+    for i in 0..n {
         next = put_slot(out, next, label, origin, s, restart_arguments, i);
-        i += 1;
     }
     next
 }
@@ -140,12 +138,10 @@ pub fn used_in(program: &[u8]) -> usize
     ensures value { result ≡ used_in program.now }
     ensures upper_bound { result ≤ 8 }
 {
-    let mut i = 0;
-    while i < 8 {
+    for i in 0..8 {
         if program[i * 8] == 0 {
             return i;
         }
-        i += 1;
     }
-    i
+    8
 }

@@ -78,12 +78,10 @@ fn put_changes(out: &mut [u8], at: usize, storage: &[u8]) -> usize
 {
     let mut next = at;
     let mut left = 3;
-    let mut a = 0;
-    while a < storage.len() {
+    for a in 0..storage.len() {
         let b = base::byte(storage, a);
         next = put_change(out, next, left, a, b);
         left = left_after(left, b);
-        a += 1;
     }
     next
 }

@@ -90,10 +90,8 @@ pub fn put_flags(out: &mut [u8], at: usize, flags: u8) -> usize
     ensures upper_bound { result ≤ at + 528 }
 {
     let mut next = at;
-    let mut k = 0u8;
-    while k < 8 {
+    for k in 0..8 {
         next = put_flag(out, next, flags, k);
-        k += 1;
     }
     next
 }

@@ -73,10 +73,8 @@ pub fn put_sense(out: &mut [u8], at: usize, sense: &[u8]) -> usize
     ensures upper_bound { result ≤ at + 1855 }
 {
     let mut next = at;
-    let mut i = 0;
-    while i < 24 {
+    for i in 0..24 {
         next = put_sense_bit(out, next, sense, i);
-        i += 1;
     }
     put_truncation(out, next, sense)
 }
@@ -105,10 +103,8 @@ fn put_row_bits(out: &mut [u8], at: usize, asked: &[u8]) -> usize
     ensures upper_bound { result ≤ at + 96 }
 {
     let mut next = at;
-    let mut i = 0;
-    while i < 24 {
+    for i in 0..24 {
         next = put_row_bit(out, next, asked, i);
-        i += 1;
     }
     next
 }

@@ -22,10 +22,8 @@ pub fn put(to: &mut [u8], at: usize, s: &[u8]) -> usize
     ensures puts { Puts to.old at s.now to.new result }
     ensures value { result ≡ at + length s.now }
 {
-    let mut i = 0;
-    while i < s.len() {
+    for i in 0..s.len() {
         to[at + i] = s[i];
-        i += 1;
     }
     at + s.len()
 }
@@ -38,11 +36,9 @@ pub fn put_digits(to: &mut [u8], at: usize, base: usize, k: usize, n: usize) -> 
     ensures puts { Puts to.old at (digits base k n) to.new result }
     ensures value { result ≡ at + k }
 {
-    let mut left = k;
     let mut rest = n;
-    while left > 0 {
-        left -= 1;
-        to[at + left] = character(rest % base);
+    for i in (0..k).rev() {
+        to[at + i] = character(rest % base);
         rest /= base;
     }
     at + k
@@ -67,10 +63,8 @@ pub fn put_bytes(to: &mut [u8], at: usize, s: &[u8]) -> usize
     ensures value { result ≡ at + length s.now * 2 }
 {
     let mut next = at;
-    let mut from = 0;
-    while from < s.len() {
+    for from in 0..s.len() {
         next = put_digits(to, next, 16, 2, base::byte(s, from));
-        from += 1;
     }
     next
 }

@@ -25,15 +25,13 @@ fn item_at(list: &[u8], i: usize) -> usize
     ensures upper_bound { result ≤ length list.now }
 {
     let mut left = i;
-    let mut at = 0;
-    while at < list.len() {
+    for at in 0..list.len() {
         if left == 0 {
             return at;
         }
         left = fewer(left, list[at]);
-        at += 1;
     }
-    at
+    list.len()
 }
 
 // The place of the next slash, or the list's end.
@@ -42,14 +40,12 @@ fn end_of(list: &[u8], from: usize) -> usize
     ensures value { result ≡ from + length (up_to (drop from list.now)) }
     ensures upper_bound { result ≤ length list.now }
 {
-    let mut at = from;
-    while at < list.len() {
+    for at in from..list.len() {
         if list[at] == b'/' {
             return at;
         }
-        at += 1;
     }
-    at
+    list.len()
 }
 
 // The text with number i of a list, counted from 0, at a place; the place behind it.

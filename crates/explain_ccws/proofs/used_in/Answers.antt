@@ -1,5 +1,6 @@
--- `explain_ccws::used_in` meets its contract. Invariant: from here on as many are used as in all. Measure: the CCWs left. Assumes nothing.
-use mathlib.Core.Path.{refl, ◌∙◌}
+-- `explain_ccws::used_in` meets its contract. Invariant: from here on as many are used as in all. Assumes nothing.
+use native.Mathlib.Omega.{arith}
+use mathlib.Core.Path.{◌≡◌, refl, ◌∙◌}
 use Rattle.explain_ccws.specs.Ccws.{used_in}
 use Rattle.explain_ccws.proofs.Lines.{used_here, used_turn, used_all}
 use borrow.Author.Rules.{rules}
@@ -16,4 +17,6 @@ pub loop-i-preserved : goal.loop-i-preserved
 loop-i-preserved c = (search rules, used_turn _ _ c.loop-i-test.true c.if-program-i-eq0.false ∙ c.loop-i.invariant.1)
 
 pub returns : goal.returns
-returns c = record { value = used_all _ _ c.loop-i-test.false ∙ c.loop-i.invariant.1; upper_bound = search rules }
+returns c =
+    let e : 8 ≡ c.loop-i.i = omega (arith, c.loop-i.invariant.0, c.loop-i-test.false) in
+    record { value = e ∙ used_all _ _ c.loop-i-test.false ∙ c.loop-i.invariant.1; upper_bound = search rules }

@@ -1,5 +1,4 @@
--- `explain_correction::put_changes` meets its contract. Invariant: the lines that are left, put where the loop stands, make the whole. Measure: the bytes
--- left. Assumes nothing.
+-- `explain_correction::put_changes` meets its contract. Invariant: the lines that are left, put where the loop stands, make the whole. Assumes nothing.
 use Rattle.explain_correction.specs.Correction.{change_lines}
 use Rattle.explain_correction.proofs.Lines.{changes_turn, changes_none}
 use borrow.Author.Rules.{rules}

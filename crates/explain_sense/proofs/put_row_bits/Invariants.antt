@@ -1,5 +1,4 @@
--- `explain_sense::put_row_bits` meets its contract. Invariant: the bits that are left, put where the loop stands, make the whole. Measure: the bits
--- left. Assumes nothing.
+-- `explain_sense::put_row_bits` meets its contract. Invariant: the bits that are left, put where the loop stands, make the whole. Assumes nothing.
 use Prim.Native.Nat.{ℕ, ◌+◌, ◌*◌, ◌-◌, ◌≤◌}
 use mathlib.Core.Path.{◌≡◌}
 use mathlib.Core.List.{List}
@@ -15,6 +14,3 @@ invariant-loop-i l =
     × (l.i ≤ 24)
     × (l.next ≤ l.at + l.i * 4)
     × ((z : List ℕ) (q : ℕ) → Puts l.out l.next (each (24 - l.i) l.i (row_bit l.asked)) z q → Puts l.initial.out l.at (row_bits l.asked) z q)
-
-abbrev pub decreases-loop-i : goal.decreases-loop-i
-decreases-loop-i l = 24 - l.i

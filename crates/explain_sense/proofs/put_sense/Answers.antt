@@ -1,5 +1,4 @@
--- `explain_sense::put_sense` meets its contract. Invariant: the bits that are left, put where the loop stands, make the whole. Measure: the bits
--- left. Assumes nothing.
+-- `explain_sense::put_sense` meets its contract. Invariant: the bits that are left, put where the loop stands, make the whole. Assumes nothing.
 use Rattle.words.proofs.Each.{each_start, each_turn, each_none}
 use Rattle.explain_sense.proofs.Lines.{lines_put}
 use borrow.Author.Rules.{rules}

@@ -1,4 +1,4 @@
--- `text::put` meets its contract. Invariant: the bytes that are left, put where the loop stands, make the whole. Measure: the bytes left.
+-- `text::put` meets its contract. Invariant: the bytes that are left, put where the loop stands, make the whole.
 -- Assumes nothing.
 use native.Mathlib.Nat.{add-zero}
 use mathlib.Core.Path.{refl, sym, ◌∙◌}

@@ -1,5 +1,4 @@
--- `text::put_bytes` meets its contract. Invariant: the digits that are left, put where the loop stands, make the whole. Measure: the bytes
--- left. Assumes nothing.
+-- `text::put_bytes` meets its contract. Invariant: the digits that are left, put where the loop stands, make the whole. Assumes nothing.
 use Rattle.text.proofs.Written.{bytes_turn, bytes_none}
 use borrow.Author.Rules.{rules}
 use Rattle.text.proofs.put_bytes.Goals as goal

