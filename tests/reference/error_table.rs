@@ -67,22 +67,10 @@ fn rows(book: &Book) -> Result<Vec<([u8; 3], String)>, String> {
 /// The actions that are not built are all refused alike: only the source tells them apart.
 fn same_as_source(rows: &[([u8; 3], String)]) -> Checked {
     const PATH: &str = "crates/error_table/src/lib.rt";
-    const NAMES: [(&str, &str); 12] = [
-        ("One", "1"),
-        ("Two", "2"),
-        ("Three", "3"),
-        ("Four", "4"),
-        ("Five", "5"),
-        ("Six", "6"),
-        ("SixA", "6A"),
-        ("Seven", "7"),
-        ("Eight", "8"),
-        ("Nine", "9"),
-        ("Ten", "10"),
-        ("Eleven", "11"),
-    ];
+    let text = source(PATH)?;
+    let codes = codes(PATH, &text)?;
     let mut found = Vec::new();
-    for line in source(PATH)?.lines() {
+    for line in text.lines() {
         let Some(row) = line.strip_prefix("    row!(") else {
             continue;
         };
@@ -91,21 +79,47 @@ fn same_as_source(rows: &[([u8; 3], String)]) -> Checked {
         };
         let bits: Vec<u8> = bits
             .split(", ")
-            .map(|bits| match bits.strip_prefix("0x") {
-                Some(digits) => hex(digits).map(|value| value as u8),
-                None => self::number(bits).map(|value| value as u8),
-            })
+            .map(source_byte)
             .collect::<Result<_, _>>()?;
         let &[first, second, third] = &bits[..] else {
             return Err(format!("{PATH}: '{line}'"));
         };
-        let Some((_, action)) = NAMES.iter().find(|(name, _)| *name == action) else {
-            return Err(format!("{PATH}: '{line}'"));
+        let action = match codes.get(action) {
+            Some(0x16) => "6A".to_string(),
+            Some(code) => code.to_string(),
+            None => return Err(format!("{PATH}: '{line}'")),
         };
-        found.push(([first, second, third], action.to_string()));
+        found.push(([first, second, third], action));
     }
     ensure!(found == rows, "the rows are not those of {PATH}");
     Ok(())
+}
+
+/// The code of each action by its name.
+fn codes(path: &str, text: &str) -> Result<HashMap<String, u8>, String> {
+    let cases = text
+        .split_once("pub enum Action {\n")
+        .and_then(|(_, cases)| cases.split_once("\n}\n"));
+    let Some((cases, _)) = cases else {
+        return Err(format!("{path}: no enum `Action`"));
+    };
+    let mut codes = HashMap::new();
+    for line in cases.lines() {
+        let Some((name, code)) = line.trim().trim_end_matches(',').split_once(" = ") else {
+            return Err(format!("{path}: '{line}'"));
+        };
+        codes.insert(name.to_string(), source_byte(code)?);
+    }
+    Ok(codes)
+}
+
+/// A byte as the source has it, in hexadecimal or decimal digits.
+fn source_byte(number: &str) -> Result<u8, String> {
+    let value = match number.strip_prefix("0x") {
+        Some(digits) => hex(digits)?,
+        None => self::number(number)?,
+    };
+    Ok(value as u8)
 }
 
 struct Actions {
